@@ -1,0 +1,67 @@
+-- Tests that compute, each with the statement that it shows: a statement over finitely many numbers is proved by running its test.
+--   Test A          == a Bool, and a proof of A where it is true
+--   equal, below    == the tests of m ≡ n and of m < n
+--   always, _⊛_     == a statement that needs no test, and one more premise tested: the test of what follows from several
+--   unless-zero     == the test of a statement about nonzero numbers
+--   every, -Pair, -Triple == the tests of a statement about all numbers below q, all pairs, all triples
+-- Assumes nothing.
+use mathlib.Core.Path.{_≡_, subst, sym}
+use mathlib.Core.Bool.{Bool, true, false, _&&_}
+use mathlib.Core.Logic.{⊎-elim}
+use Prim.Native.Nat.{ℕ, zero, suc, _<_}
+use native.Mathlib.Nat.{eq-or-lt-of-le, le-of-suc-le-suc, not-suc-le-zero}
+use lib.Dec.{T, eqb, eqb→eq, ltb, ltb→lt}
+
+pub record Test (A : Type 0) : Type 0 where
+  pub holds : Bool
+  pub shows : T holds → A
+
+abbrev pub equal : (m n : ℕ) → Test (m ≡ n)
+equal m n = record { holds = eqb m n; shows = eqb→eq m n }
+
+abbrev pub below : (m n : ℕ) → Test (m < n)
+below m n = record { holds = ltb m n; shows = ltb→lt m n }
+
+pub and-left : (a b : Bool) → T (a && b) → T a
+and-left true b t = tt
+and-left false b t = t
+
+pub and-right : (a b : Bool) → T (a && b) → T b
+and-right true b t = t
+and-right false b t = absurd t
+
+infixl 20 _⊛_
+abbrev pub always : {A : Type 0} → A → Test A
+always a = record { holds = true; shows = λ _. a }
+
+abbrev pub _⊛_ : {A B : Type 0} → Test (A → B) → Test A → Test B
+f ⊛ a =
+    record {
+      holds = f .holds && a .holds;
+      shows = λ t. f .shows (and-left (f .holds) (a .holds) t) (a .shows (and-right (f .holds) (a .holds) t));
+    }
+
+abbrev pub unless-zero : (a : ℕ) (A : Type 0) → Test A → Test (0 < a → A)
+unless-zero zero A t = record { holds = true; shows = λ _ h. absurd (not-suc-le-zero h) }
+unless-zero (suc a) A t = record { holds = t .holds; shows = λ s _. t .shows s }
+
+abbrev pub every : (P : ℕ → Type 0) → ((a : ℕ) → Test (P a)) → (q : ℕ) → Test ((a : ℕ) → a < q → P a)
+every P f zero = record { holds = true; shows = λ _ a h. absurd (not-suc-le-zero h) }
+every P f (suc q) = every-step P f q (every P f q)
+  where
+    every-step : (P : ℕ → Type 0) → ((a : ℕ) → Test (P a)) → (q : ℕ) → Test ((a : ℕ) → a < q → P a) → Test ((a : ℕ) → a < suc q → P a)
+    every-step P f q e =
+        record {
+          holds = f q .holds && e .holds;
+          shows =
+              λ t a h.
+              ⊎-elim (λ (p : a ≡ q). subst P (sym p) (f q .shows (and-left (f q .holds) (e .holds) t)))
+              (λ (l : a < q). e .shows (and-right (f q .holds) (e .holds) t) a l) (eq-or-lt-of-le (le-of-suc-le-suc h));
+        }
+
+abbrev pub everyPair : (q : ℕ) (P : ℕ → ℕ → Type 0) → ((a b : ℕ) → Test (P a b)) → Test ((a : ℕ) → a < q → (b : ℕ) → b < q → P a b)
+everyPair q P t = every (λ a. (b : ℕ) → b < q → P a b) (λ a. every (P a) (t a) q) q
+
+abbrev pub everyTriple : (q : ℕ) (P : ℕ → ℕ → ℕ → Type 0) → ((a b c : ℕ) → Test (P a b c))
+    → Test ((a : ℕ) → a < q → (b : ℕ) → b < q → (c : ℕ) → c < q → P a b c)
+everyTriple q P t = every (λ a. (b : ℕ) → b < q → (c : ℕ) → c < q → P a b c) (λ a. everyPair q (P a) (t a)) q

@@ -1,0 +1,1 @@
+// Lemmas that every layer cites; no code.

@@ -1,0 +1,3 @@
+pub mod Sizes
+pub mod Inverses
+pub mod Bytes

@@ -1,0 +1,6 @@
+-- field: the arithmetic of the field with q elements, and the laws that it obeys.
+pub mod Field
+pub mod Laws
+pub mod Decide
+pub mod Small
+pub mod InField

@@ -1,0 +1,120 @@
+// Arithmetic of the field with q elements, on bytes. Every function answers for every q and every byte: where q is no field
+// size the answer is 0, and a byte of q or more counts as its remainder by q.
+ghost use mathlib.Core.Path.{_≡_};
+ghost use Prim.Native.Nat.{_%_};
+ghost use Rattle.basics.specs.Member.{position};
+ghost use Rattle.field.specs.Field.{fieldSizes, isFieldSize, orZero, add as sum, multiply as product, negate as negative, invert as inverse};
+
+// The place of q's part in a table with a part for each field size; 4 where q is none.
+pub fn place(q: u64) -> usize
+    ensures { λ r. ⌜ r ≡ position q fieldSizes ⌝ }
+{
+    match q {
+        2 => 0,
+        3 => 1,
+        5 => 2,
+        7 => 3,
+        _ => 4,
+    }
+}
+
+pub fn is_size(q: u64) -> bool
+    ensures { λ r. ⌜ r ≡ isFieldSize q ⌝ }
+{
+    place(q) < 4
+}
+
+fn remainder(q: u64, x: u16) -> u8
+    ensures { λ r. ⌜ r ≡ orZero q (x % q) ⌝ }
+{
+    match q {
+        2 => (x % 2) as u8,
+        3 => (x % 3) as u8,
+        5 => (x % 5) as u8,
+        7 => (x % 7) as u8,
+        _ => 0,
+    }
+}
+
+pub fn add(q: u64, a: u8, b: u8) -> u8
+    ensures { λ r. ⌜ r ≡ orZero q (sum q a b) ⌝ }
+{
+    remainder(q, a as u16 + b as u16)
+}
+
+pub fn multiply(q: u64, a: u8, b: u8) -> u8
+    ensures { λ r. ⌜ r ≡ orZero q (product q a b) ⌝ }
+{
+    remainder(q, a as u16 * b as u16)
+}
+
+// a + c·b, in one step.
+pub fn add_product(q: u64, a: u8, c: u8, b: u8) -> u8
+    ensures { λ r. ⌜ r ≡ orZero q (sum q a (product q c b)) ⌝ }
+{
+    remainder(q, a as u16 + c as u16 * b as u16)
+}
+
+pub fn negate(q: u64, a: u8) -> u8
+    ensures { λ r. ⌜ r ≡ orZero q (negative q a) ⌝ }
+{
+    match q {
+        2 => (2 - a % 2) % 2,
+        3 => (3 - a % 3) % 3,
+        5 => (5 - a % 5) % 5,
+        7 => (7 - a % 7) % 7,
+        _ => 0,
+    }
+}
+
+// A part of eight for each field size: what stands at a is the inverse of a. The last part is for any other q.
+const INVERSES: [u8; 40] = [
+    0,
+    1, // of 1 modulo 2
+    0,
+    0,
+    0,
+    0,
+    0,
+    0,
+    0,
+    1, // of 1 modulo 3
+    2, // of 2 modulo 3
+    0,
+    0,
+    0,
+    0,
+    0,
+    0,
+    1, // of 1 modulo 5
+    3, // of 2 modulo 5
+    2, // of 3 modulo 5
+    4, // of 4 modulo 5
+    0,
+    0,
+    0,
+    0,
+    1, // of 1 modulo 7
+    4, // of 2 modulo 7
+    5, // of 3 modulo 7
+    2, // of 4 modulo 7
+    3, // of 5 modulo 7
+    6, // of 6 modulo 7
+    0,
+    0,
+    0,
+    0,
+    0,
+    0,
+    0,
+    0,
+    0,
+];
+
+pub fn invert(q: u64, a: u8) -> u8
+    ensures { λ r. ⌜ r ≡ orZero q (inverse q a) ⌝ }
+{
+    let part = place(q);
+    let at = remainder(q, a as u16) as usize;
+    INVERSES[part * 8 + at]
+}

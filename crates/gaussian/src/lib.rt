@@ -1,0 +1,75 @@
+// The number of spaces, and the settings that are accepted.
+mod table;
+
+ghost use mathlib.Core.Path.{_≡_};
+ghost use Prim.Native.Nat.{suc, _*_, _^_, _≤_, _<_};
+ghost use lib.Dec.{T};
+ghost use Rattle.field.specs.Field.{isFieldSize};
+ghost use Rattle.gaussian.specs.Gaussian.{gaussian, greatestCount, tableEntry};
+ghost use Rattle.gaussian.specs.Settings.{rowLengthOk, settingsRefusal, countOf};
+use table::COUNTS;
+
+// What Count answers: the number of spaces, or the refusal.
+pub enum Counted {
+    Count(u64),
+    Refused(u32),
+}
+
+// The Gaussian coefficient of n and k, from the table; 0 where it is above 2^64 - 1.
+pub fn coefficient(q: u64, n: u64, k: u64) -> u64
+    requires { ⌜ T (isFieldSize q) × (n ≤ 16) × (k ≤ 16) ⌝ }
+    ensures { λ r. ⌜ r ≡ tableEntry q n k ⌝ }
+{
+    let part = field::place(q);
+    let at = (part * 17 + n as usize) * 17 + k as usize;
+    COUNTS[at]
+}
+
+// Document 01: "Row length n is 1 to 16."
+pub fn row_length_ok(n: u64) -> bool
+    ensures { λ r. ⌜ r ≡ rowLengthOk n ⌝ }
+{
+    1 <= n && n <= 16
+}
+
+// The first of the refusals 1, 2, 3 that applies to the settings; 0 where they are accepted.
+pub fn settings_refusal(q: u64, n: u64, k: u64) -> u32
+    ensures { λ r. ⌜ r ≡ settingsRefusal q n k ⌝ }
+{
+    if !field::is_size(q) {
+        return refusal::FIELD_SIZE;
+    }
+    if !row_length_ok(n) {
+        return refusal::SHAPE;
+    }
+    if n < k {
+        return refusal::SHAPE;
+    }
+    if coefficient(q, n, k) == 0 {
+        return refusal::COUNT;
+    }
+    0
+}
+
+// Count: the number of spaces. Refuses 1, 2, 3.
+pub fn count(q: u64, n: u64, k: u64) -> Counted
+    ensures { λ r. ⌜ r ≡ countOf q n k ⌝ }
+{
+    let refusal = settings_refusal(q, n, k);
+    if refusal != 0 {
+        return Counted::Refused(refusal);
+    }
+    Counted::Count(coefficient(q, n, k))
+}
+
+// q^k [n, k], the number of reduced matrices of n + 1 columns whose last column has no pivot, without a power: by formula (4) it is
+// [n + 1, k] - [n, k - 1].
+pub fn free_count(q: u64, n: u64, k: u64) -> u64
+    requires { ⌜ T (isFieldSize q) × (n < 16) × (k ≤ 16) × (gaussian q (suc n) k ≤ greatestCount) ⌝ }
+    ensures { λ r. ⌜ r ≡ q ^ k * gaussian q n k ⌝ }
+{
+    if k == 0 {
+        return 1;
+    }
+    coefficient(q, n + 1, k) - coefficient(q, n, k - 1)
+}
