@@ -1,0 +1,131 @@
+-- The tests of Matrix decide what they should; no part of the meaning.
+--   entries-below   == every entry is below q exactly where the test holds
+--   Clauses n k m i p == document 01's four clauses for row i with its pivot in column p
+--   cell-alone      == the test at one row of a column
+--   row-zero, row-not-one, row-not-rising, row-rest == what is left of a row's test after each clause
+--   reduced-exactly == a matrix of the right length with its entries below q is Reduced exactly where isReduced holds
+-- Assumes nothing.
+use mathlib.Core.Path.{_≡_, refl, ap₂}
+use mathlib.Core.Bool.{Bool, true, false, _&&_, _||_}
+use mathlib.Core.List.{List}
+use mathlib.Core.Logic.{_↔_, _⊎_, ⊎-elim}
+use Prim.Native.Nat.{ℕ, suc, _*_, _<_, _≤_}
+use native.Mathlib.Omega.{arith}
+use borrow.Author.Tests.{lt-ltb, le-ltb, eq-eqb, ne-eqb, lt-leb, leb-false, eqb-false}
+use lib.Dec.{T, eqb, ltb, leb, ltb→lt, eqb→eq, leb→le}
+use lib.ListN.{length, getD}
+use Rattle.basics.specs.Choice.{holds, or-left, or-right}
+use Rattle.basics.specs.All.{allBelow-at, allBelow-true}
+use Rattle.basics.specs.Test.{and-left, and-right}
+use Rattle.matrix.specs.Matrix.{entry, pivot, Reduced, entriesBelow, columnAlone, rowReduced, isReduced}
+
+pub entries-below : (q : ℕ) (m : List ℕ) → T (entriesBelow q m) → (place : ℕ) → place < length m → getD m place 0 < q
+unfolding entriesBelow
+entries-below q m t place h = ltb→lt (getD m place 0) q (allBelow-at (length m) (λ p. ltb (getD m p 0) q) t place h)
+
+pub entries-below-true : (q : ℕ) (m : List ℕ) → ((place : ℕ) → place < length m → getD m place 0 < q) → entriesBelow q m ≡ true
+unfolding entriesBelow
+entries-below-true q m h = allBelow-true (length m) (λ p. ltb (getD m p 0) q) (λ p l. lt-ltb (getD m p 0) q (h p l))
+
+or-other : (a b : Bool) → T (a || b) → (T a → ⊥) → T b
+or-other true b t h = absurd (h tt)
+or-other false b t h = t
+
+or-true : (a b : Bool) → (a ≡ false → b ≡ true) → a || b ≡ true
+or-true true b h = refl
+or-true false b h = h refl
+
+and-true : (a b : Bool) → a ≡ true → b ≡ true → a && b ≡ true
+and-true a b p q = ap₂ _&&_ p q
+
+-- the four clauses of row i, whose pivot is in column p
+pub record Clauses (n k : ℕ) (m : List ℕ) (i p : ℕ) : Type 0 where
+  pub no-zero-row : p < n
+  pub pivot-one : entry n m i p ≡ 1
+  pub pivots-rise : suc i < k → p < pivot n m (suc i)
+  pub pivot-alone : (a : ℕ) → a < k → (a ≡ i → ⊥) → entry n m a p ≡ 0
+
+module _ (n k : ℕ) (m : List ℕ) (i p : ℕ) where
+  clauses-of : T (rowReduced n k m i p) → Clauses n k m i p
+  unfolding rowReduced columnAlone
+  clauses-of t =
+      let t₁ = and-right (ltb p n) _ t in
+      let t₂ = and-right (eqb (entry n m i p) 1) _ t₁ in
+      record {
+        no-zero-row = ltb→lt p n (and-left (ltb p n) _ t);
+        pivot-one = eqb→eq (entry n m i p) 1 (and-left (eqb (entry n m i p) 1) _ t₁);
+        pivots-rise =
+            λ h.
+            ltb→lt p (pivot n m (suc i))
+            (or-other (leb k (suc i)) _ (and-left (leb k (suc i) || ltb p (pivot n m (suc i))) _ t₂)
+            (λ l. let g = leb→le k (suc i) l in omega arith));
+        pivot-alone =
+            λ a h ne.
+            eqb→eq (entry n m a p) 0
+            (or-other (eqb a i) _
+            (allBelow-at k (λ a. eqb a i || eqb (entry n m a p) 0) (and-right (leb k (suc i) || ltb p (pivot n m (suc i))) _ t₂) a h)
+            (λ e. ne (eqb→eq a i e)));
+      }
+
+  clauses-true : Clauses n k m i p → rowReduced n k m i p ≡ true
+  unfolding rowReduced columnAlone
+  clauses-true c =
+      and-true _ _ (lt-ltb p n (c .no-zero-row))
+      (and-true _ _ (eq-eqb (entry n m i p) 1 (c .pivot-one))
+      (and-true _ _
+      (or-true (leb k (suc i)) _ (λ e. lt-ltb p (pivot n m (suc i)) (c .pivots-rise (leb-false k (suc i) e))))
+      (allBelow-true k (λ a. eqb a i || eqb (entry n m a p) 0)
+      (λ a h. or-true (eqb a i) _ (λ e. eq-eqb (entry n m a p) 0 (c .pivot-alone a h (eqb-false a i e)))))))
+
+pub cell-alone : (n : ℕ) (m : List ℕ) (i j a : ℕ) → (a ≡ i) ⊎ (entry n m a j ≡ 0) → eqb a i || eqb (entry n m a j) 0 ≡ true
+cell-alone n m i j a c =
+    ⊎-elim (λ e. or-left (eqb a i) _ (eq-eqb a i e)) (λ e. or-right (eqb a i) _ (eq-eqb (entry n m a j) 0 e)) c
+
+-- the test of a row, clause by clause, as the code makes it
+module _ (n k : ℕ) (m : List ℕ) (i p : ℕ) where
+  pub row-zero : n ≤ p → rowReduced n k m i p ≡ false
+  unfolding rowReduced
+  row-zero h = rw (le-ltb p n h)
+
+  pub row-not-one : p < n → (entry n m i p ≡ 1 → ⊥) → rowReduced n k m i p ≡ false
+  unfolding rowReduced
+  row-not-one h ne = rw (lt-ltb p n h, ne-eqb (entry n m i p) 1 ne)
+
+  pub row-not-rising : p < n → entry n m i p ≡ 1 → suc i < k → pivot n m (suc i) ≤ p → rowReduced n k m i p ≡ false
+  unfolding rowReduced
+  row-not-rising h e l g = rw (lt-ltb p n h, eq-eqb (entry n m i p) 1 e, lt-leb k (suc i) l, le-ltb p (pivot n m (suc i)) g)
+
+  pub row-rest : p < n → entry n m i p ≡ 1 → (suc i < k → p < pivot n m (suc i)) → rowReduced n k m i p ≡ columnAlone n k m i p
+  unfolding rowReduced
+  row-rest h e l =
+      rw (lt-ltb p n h, eq-eqb (entry n m i p) 1 e, or-true (leb k (suc i)) (ltb p (pivot n m (suc i))) (λ f. lt-ltb p (pivot n m (suc i)) (l (leb-false k (suc i) f))))
+
+module _ (q n k : ℕ) (m : List ℕ) (sized : length m ≡ k * n) (below : T (entriesBelow q m)) where
+  clauses-at : T (isReduced n k m) → (i : ℕ) → i < k → Clauses n k m i (pivot n m i)
+  unfolding isReduced
+  clauses-at t i h = clauses-of n k m i (pivot n m i) (allBelow-at k (λ i. rowReduced n k m i (pivot n m i)) t i h)
+
+  pub reduced-exactly : T (isReduced n k m) ↔ Reduced q n k m
+  unfolding isReduced
+  reduced-exactly = (
+    λ t.
+        record {
+          size = sized;
+          below = λ place h. entries-below q m below place (rw sized h);
+          no-zero-row = λ i h. clauses-at t i h .no-zero-row;
+          pivot-one = λ i h. clauses-at t i h .pivot-one;
+          pivots-rise = λ i h. clauses-at t i (omega arith) .pivots-rise h;
+          pivot-alone = λ i h a. clauses-at t i h .pivot-alone a;
+        },
+    λ r.
+        holds _
+        (allBelow-true k (λ i. rowReduced n k m i (pivot n m i))
+        (λ i h.
+        clauses-true n k m i (pivot n m i)
+        (record {
+          no-zero-row = r .no-zero-row i h;
+          pivot-one = r .pivot-one i h;
+          pivots-rise = r .pivots-rise i;
+          pivot-alone = r .pivot-alone i h;
+        }))),
+  )

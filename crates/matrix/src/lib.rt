@@ -1,0 +1,175 @@
+// Reduced matrices as bytes, row by row from the top. The functions ask that the matrix has its k×n bytes; the calls above test it.
+ghost use mathlib.Core.Path.{_≡_};
+ghost use mathlib.Core.List.{List};
+ghost use Prim.Native.Nat.{ℕ, _+_, _*_, _^_, _/_, _%_, _≤_, _<_};
+ghost use lib.Dec.{eqb};
+ghost use lib.ListN.{length, getD};
+ghost use Rattle.matrix.specs.Matrix.{entry, lead as leadOf, entriesBelow, columnAlone, rowReduced, isReduced, Reduced, identifying as vectorOf};
+ghost use Rattle.matrix.specs.Shape.{topValue};
+ghost use Rattle.matrix.specs.Written.{digitAt, Written};
+
+// The place, counted from `start`, of the first nonzero byte among the n bytes from there on; n where there is none.
+pub fn lead(m: &[u8], start: usize, n: usize) -> usize
+    requires { ⌜ start + n ≤ length (now m) ⌝ }
+    ensures { λ r. ⌜ r ≡ leadOf (λ j. getD (now (m .entry)) (start + j) 0) n ⌝ }
+{
+    let mut j = 0;
+    while j < n {
+        if m[start + j] != 0 {
+            return j;
+        }
+        j += 1;
+    }
+    n
+}
+
+// Whether every byte is below q.
+pub fn entries_below(m: &[u8], q: u64) -> bool
+    ensures { λ r. ⌜ r ≡ entriesBelow q (now (m .entry)) ⌝ }
+{
+    let mut i = 0;
+    while i < m.len() {
+        if q <= m[i] as u64 {
+            return false;
+        }
+        i += 1;
+    }
+    true
+}
+
+// Whether column j is zero but for row i.
+fn column_alone(m: &[u8], n: usize, k: usize, i: usize, j: usize) -> bool
+    requires { ⌜ (j < n) × (k * n ≤ length (now m)) ⌝ }
+    ensures { λ r. ⌜ r ≡ columnAlone n k (now (m .entry)) i j ⌝ }
+{
+    let mut a = 0;
+    while a < k {
+        if a != i {
+            if m[a * n + j] != 0 {
+                return false;
+            }
+        }
+        a += 1;
+    }
+    true
+}
+
+// Whether row i, whose pivot is in column p, obeys the four clauses of a reduced matrix.
+fn row_reduced(m: &[u8], n: usize, k: usize, i: usize, p: usize) -> bool
+    requires { ⌜ (i < k) × (k * n ≤ length (now m)) ⌝ }
+    ensures { λ r. ⌜ r ≡ rowReduced n k (now (m .entry)) i p ⌝ }
+{
+    if n <= p {
+        return false;
+    }
+    if m[i * n + p] != 1 {
+        return false;
+    }
+    if i + 1 < k {
+        if lead(m, (i + 1) * n, n) <= p {
+            return false;
+        }
+    }
+    column_alone(m, n, k, i, p)
+}
+
+// Whether the k rows obey the four clauses of a reduced matrix.
+pub fn is_reduced(m: &[u8], n: usize, k: usize) -> bool
+    requires { ⌜ k * n ≤ length (now m) ⌝ }
+    ensures { λ r. ⌜ r ≡ isReduced n k (now (m .entry)) ⌝ }
+{
+    let mut i = 0;
+    while i < k {
+        let p = lead(m, i * n, n);
+        if !row_reduced(m, n, k, i, p) {
+            return false;
+        }
+        i += 1;
+    }
+    true
+}
+
+// The last digit of x in base q. A constant divisor in each arm spares the division.
+fn last_digit(q: u64, x: u64) -> u8
+    requires { ⌜ (0 < q) × (q ≤ 256) ⌝ }
+    ensures { λ r. ⌜ r ≡ x % q ⌝ }
+{
+    match q {
+        2 => (x % 2) as u8,
+        3 => (x % 3) as u8,
+        5 => (x % 5) as u8,
+        7 => (x % 7) as u8,
+        _ => (x % q) as u8,
+    }
+}
+
+// The other digits of x in base q.
+fn other_digits(q: u64, x: u64) -> u64
+    requires { ⌜ 0 < q ⌝ }
+    ensures { λ r. ⌜ r ≡ x / q ⌝ }
+{
+    match q {
+        2 => x / 2,
+        3 => x / 3,
+        5 => x / 5,
+        7 => x / 7,
+        _ => x / q,
+    }
+}
+
+// Writes the base-q digits of x into the first `rows` entries of column c, the last digit lowest, and 0 into the other entries.
+pub fn write_column(m: &mut [u8], q: u64, n: usize, k: usize, c: usize, rows: usize, x: u64)
+    requires { ⌜ (0 < q) × (q ≤ 256) × (c < n) × (rows ≤ k) × (k * n ≤ length (now m)) ⌝ }
+    ensures { λ _. ⌜ Written n k c (digitAt q rows x) (now (m .entry)) (now (m .exit)) ⌝ }
+{
+    let mut rest = x;
+    let mut i = k;
+    while i > 0 {
+        let a = i - 1;
+        let mut digit: u8 = 0;
+        if a < rows {
+            digit = last_digit(q, rest);
+            rest = other_digits(q, rest);
+        }
+        m[a * n + c] = digit;
+        i = a;
+    }
+}
+
+// The first `rows` entries of column c as a base-q number, top row most significant.
+pub fn top_value(m: &[u8], q: u64, n: usize, c: usize, rows: usize) -> u64
+    requires { ⌜ (c < n) × (rows * n ≤ length (now m)) × (rows ≤ 16) × (q ≤ 8) × ((i : ℕ) → i < rows → entry n (now m) i c < q) ⌝ }
+    ensures { λ r. ⌜ r ≡ topValue q (entry n (now (m .entry))) rows c ⌝ }
+{
+    let mut x: u64 = 0;
+    let mut i = 0;
+    while i < rows {
+        x = x * q + m[i * n + c] as u64;
+        i += 1;
+    }
+    x
+}
+
+// The identifying vector of a reduced matrix: column j from the right has the value 2^(j-1).
+pub fn identifying(m: &[u8], n: usize, k: usize) -> u16
+    requires { ⌜ (n ≤ 16) × ((q : ℕ) × Reduced q n k (now m)) ⌝ }
+    ensures { λ r. ⌜ r ≡ vectorOf n k (now (m .entry)) ⌝ }
+{
+    let mut v: u16 = 0;
+    let mut i = k;
+    while i > 0 {
+        let r = i - 1;
+        let j = n - 1 - lead(m, r * n, n);
+        v += 1u16 << j;
+        i = r;
+    }
+    v
+}
+
+// Whether bit j of v is 1.
+pub fn pivot_at(v: u16, j: usize) -> bool
+    requires { ⌜ j < 16 ⌝ }
+    ensures { λ r. ⌜ r ≡ eqb (v / 2 ^ j % 2) 1 ⌝ }
+{
+    u16::trailing_zeros(v >> j) == 0
+}
