@@ -1,0 +1,77 @@
+// The extended numbering: a reduced matrix to its index, and back.
+ghost use mathlib.Core.Path.{_≡_};
+ghost use Prim.Native.Nat.{_*_, _^_, _/_, _%_, _≤_, _<_};
+ghost use lib.Count.{ones};
+ghost use lib.Dec.{eqb};
+ghost use lib.ListN.{length};
+ghost use Rattle.matrix.specs.Matrix.{identifying, Reduced};
+ghost use Rattle.gaussian.specs.Gaussian.{gaussian};
+ghost use Rattle.gaussian.specs.Settings.{Accepted};
+ghost use Rattle.extended.specs.Extended.{extendedTerm, extendedIndex};
+ghost use Rattle.extended.specs.Ranked.{drawnExtended};
+
+// An index of the extended numbering; it never stands for a Ferrers index.
+pub struct ExtendedIndex(pub u64);
+
+// The number of ones among the j lowest bits of v: among the columns 1 to j of an identifying vector.
+fn ones_below(v: u16, j: usize) -> usize
+    requires { ⌜ j < 16 ⌝ }
+    ensures { λ r. ⌜ r ≡ ones (v % 2 ^ j) ⌝ }
+{
+    u16::count_ones(v & ((1u16 << j) - 1)) as usize
+}
+
+// What column j from the right adds in formula (5); v is the identifying vector.
+fn column_term(m: &[u8], q: u64, n: usize, k: usize, v: u16, j: usize) -> u64
+    requires { ⌜ Accepted q n k × Reduced q n k (now m) × (v ≡ identifying n k (now m)) × (1 ≤ j) × (j ≤ n) ⌝ }
+    ensures { λ r. ⌜ r ≡ extendedTerm q n k (now (m .entry)) j ⌝ }
+{
+    let w = ones_below(v, j - 1);
+    let rows = k - w;
+    let c = n - j;
+    if matrix::pivot_at(v, j - 1) {
+        return gaussian::free_count(q, c as u64, rows as u64);
+    }
+    matrix::top_value(m, q, n, c, rows) * gaussian::coefficient(q, c as u64, rows as u64)
+}
+
+// The extended index of a reduced matrix, by formula (5).
+pub fn rank(m: &[u8], q: u64, n: usize, k: usize) -> ExtendedIndex
+    requires { ⌜ Accepted q n k × Reduced q n k (now m) ⌝ }
+    ensures { λ r. ⌜ r .0 ≡ extendedIndex q n k (now (m .entry)) ⌝ }
+{
+    let v = matrix::identifying(m, n, k);
+    let mut index: u64 = 0;
+    let mut j = 0;
+    while j < n {
+        j += 1;
+        index += column_term(m, q, n, k, v, j);
+    }
+    ExtendedIndex(index)
+}
+
+// Writes the reduced matrix with the given extended index, column by column from the right. Of the matrices of `rows` rows and as many
+// columns as are left, `rest` is the index of the one to write. The first `free` of them have no pivot in the last column, `each` for
+// each value of that column.
+pub fn unrank(m: &mut [u8], q: u64, n: usize, k: usize, index: ExtendedIndex)
+    requires { ⌜ Accepted q n k × (index .0 < gaussian q n k) × (length (now m) ≡ k * n) ⌝ }
+    ensures { λ _. ⌜ now (m .exit) ≡ drawnExtended q n k (index .0) ⌝ }
+{
+    let mut rest = index.0;
+    let mut rows = k;
+    let mut columns = n;
+    while columns > 0 {
+        let c = columns - 1;
+        let free = gaussian::free_count(q, c as u64, rows as u64);
+        if rest < free {
+            let each = gaussian::coefficient(q, c as u64, rows as u64);
+            matrix::write_column(m, q, n, k, c, rows, rest / each);
+            rest = rest % each;
+        } else {
+            matrix::write_column(m, q, n, k, c, rows, 1);
+            rest = rest - free;
+            rows = rows - 1;
+        }
+        columns = c;
+    }
+}
