@@ -1,0 +1,27 @@
+-- `ferrers::weight` meets its contract: a partition count times a power, both at most the settings' count.
+use mathlib.Core.Path.{ap₂}
+use Prim.Native.Nat.{_*_}
+use native.Mathlib.Omega.{arith}
+use borrow.Author.Needs.{needs}
+use Rattle.ferrers.specs.Weights.{sizes}
+use Rattle.ferrers.proofs.weight.Statement.{statement}
+use Rattle.ferrers.proofs.weight.Tie as tie
+
+box-count-requires : tie.Need-box-count-requires
+box-count-requires c κs = search needs
+
+power-requires : tie.Need-power-requires
+power-requires c κs =
+    let s = sizes (c .before .args .m) (c .before .pre .0) (c .before .pre .1) in
+    (s .size, s .short, s .power)
+
+returns : tie.Need-returns
+returns c = ap₂ _*_ (c .before .box-count .ensures) (c .power .ensures)
+
+mul-result : tie.Need-mul-result
+mul-result c =
+    let s = c .before .before in
+    omega (arith, returns c, sizes (s .args .m) (s .pre .0) (s .pre .1) .these)
+
+pub weight-spec : {M : Type 1} → statement M
+weight-spec = tie.close (tie.spec box-count-requires power-requires mul-result returns)

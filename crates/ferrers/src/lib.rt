@@ -1,0 +1,225 @@
+// The Ferrers numbering.
+mod table;
+
+ghost use mathlib.Core.Path.{_≡_};
+ghost use Prim.Native.Nat.{ℕ, _*_, _-_, _^_, _≤_, _<_};
+ghost use lib.Dec.{T};
+ghost use lib.ListN.{length};
+ghost use Rattle.field.specs.Field.{isFieldSize};
+ghost use Rattle.gaussian.specs.Gaussian.{gaussian, greatestCount};
+ghost use Rattle.gaussian.specs.Settings.{Accepted};
+ghost use Rattle.matrix.specs.Matrix.{identifying, Reduced};
+ghost use Rattle.matrix.specs.Shape.{cell, flatten};
+ghost use Rattle.ferrers.specs.Ferrers.{size, diagram, diagramPlace, tableauValue, largerDiagrams, ferrersIndex};
+ghost use Rattle.ferrers.specs.Ranked.{boxCount, freeCount, diagramShape, drawnFerrers};
+ghost use Rattle.ferrers.specs.Searching.{Found};
+use table::BOXES;
+use table::OFFSETS;
+use table::POWERS;
+
+// An index of the Ferrers numbering; it never stands for an extended index.
+pub struct FerrersIndex(pub u64);
+
+fn place(x: u16) -> usize
+    ensures { λ r. ⌜ r ≡ x ⌝ }
+{
+    x as usize
+}
+
+fn number(x: u16) -> u64
+    ensures { λ r. ⌜ r ≡ x ⌝ }
+{
+    x as u64
+}
+
+// p(k, n-k, m), the number of Ferrers diagrams of m dots in a box of k rows and n - k columns; 0 where there is no such box or no room.
+fn box_count(n: usize, k: usize, m: usize) -> u64
+    requires { ⌜ n ≤ 16 ⌝ }
+    ensures { λ r. ⌜ r ≡ boxCount n k m ⌝ }
+{
+    if n < k {
+        return 0;
+    }
+    if k * (n - k) < m {
+        return 0;
+    }
+    let row = place(OFFSETS[n * 17 + k]);
+    number(BOXES[row + m])
+}
+
+// q^m, from the table.
+fn power(q: u64, m: usize) -> u64
+    requires { ⌜ T (isFieldSize q) × (m ≤ 64) × (q ^ m ≤ greatestCount) ⌝ }
+    ensures { λ r. ⌜ r ≡ q ^ m ⌝ }
+{
+    POWERS[field::place(q) * 65 + m]
+}
+
+// The diagrams of m dots that begin with a free column of k dots, n columns being left after it.
+fn free_boxes(n: usize, k: usize, m: usize) -> u64
+    requires { ⌜ n ≤ 16 ⌝ }
+    ensures { λ r. ⌜ r ≡ freeCount n k m ⌝ }
+{
+    if m < k {
+        return 0;
+    }
+    box_count(n, k, m - k)
+}
+
+// The number of spaces whose diagrams have m dots.
+fn weight(q: u64, n: usize, k: usize, m: usize) -> u64
+    requires { ⌜ Accepted q n k × (m ≤ k * (n - k)) ⌝ }
+    ensures { λ r. ⌜ r ≡ boxCount n k m * q ^ m ⌝ }
+{
+    box_count(n, k, m) * power(q, m)
+}
+
+// The number of spaces whose diagrams have more than m dots.
+fn larger(q: u64, n: usize, k: usize, m: usize) -> u64
+    requires { ⌜ Accepted q n k × (m ≤ k * (n - k)) ⌝ }
+    ensures { λ r. ⌜ r ≡ largerDiagrams q k (n - k) m ⌝ }
+{
+    let limit = k * (n - k);
+    let mut sum: u64 = 0;
+    let mut i = limit;
+    while i > m {
+        sum += weight(q, n, k, i);
+        i -= 1;
+    }
+    sum
+}
+
+// The number of dots of a reduced matrix's diagram; v is the identifying vector.
+fn size_of(m: &[u8], n: usize, k: usize, v: u16) -> usize
+    requires { ⌜ (n ≤ 16) × ((q : ℕ) × Reduced q n k (now m)) × (v ≡ identifying n k (now m)) ⌝ }
+    ensures { λ r. ⌜ r ≡ size n k (now (m .entry)) ⌝ }
+{
+    let mut dots = 0;
+    let mut rows = k;
+    let mut c = n;
+    while c > 0 {
+        if matrix::pivot_at(v, n - c) {
+            rows -= 1;
+        } else {
+            dots += rows;
+        }
+        c -= 1;
+    }
+    dots
+}
+
+// The place of a reduced matrix's diagram among those of its size, by formula (12).
+fn place_of(m: &[u8], q: u64, n: usize, k: usize, v: u16, total: usize) -> u64
+    requires { ⌜ Accepted q n k × Reduced q n k (now m) × (v ≡ identifying n k (now m)) × (total ≡ size n k (now m)) ⌝ }
+    ensures { λ r. ⌜ r ≡ diagramPlace k (n - k) (diagram n k (now (m .entry))) (size n k (now (m .entry))) ⌝ }
+{
+    let mut place: u64 = 0;
+    let mut left = total;
+    let mut rows = k;
+    let mut c = n;
+    while c > 0 {
+        if matrix::pivot_at(v, n - c) {
+            place += free_boxes(c - 1, rows, left);
+            rows -= 1;
+        } else {
+            left -= rows;
+        }
+        c -= 1;
+    }
+    place
+}
+
+// The tableau of a reduced matrix read as a base-q number, column by column from the right. A pivot's column has no dots.
+fn tableau_of(m: &[u8], q: u64, n: usize, k: usize, v: u16) -> u64
+    requires { ⌜ Accepted q n k × Reduced q n k (now m) × (v ≡ identifying n k (now m)) ⌝ }
+    ensures { λ r. ⌜ r ≡ tableauValue q n k (now (m .entry)) ⌝ }
+{
+    let mut tableau: u64 = 0;
+    let mut rows = k;
+    let mut c = n;
+    while c > 0 {
+        let mut dots = rows;
+        if matrix::pivot_at(v, n - c) {
+            rows -= 1;
+            dots = 0;
+        }
+        tableau = tableau * power(q, dots) + matrix::top_value(m, q, n, c - 1, dots);
+        c -= 1;
+    }
+    tableau
+}
+
+// The Ferrers index of a reduced matrix, by formula (14).
+pub fn rank(m: &[u8], q: u64, n: usize, k: usize) -> FerrersIndex
+    requires { ⌜ Accepted q n k × Reduced q n k (now m) ⌝ }
+    ensures { λ r. ⌜ r .0 ≡ ferrersIndex q n k (now (m .entry)) ⌝ }
+{
+    let v = matrix::identifying(m, n, k);
+    let total = size_of(m, n, k, v);
+    let place = place_of(m, q, n, k, v, total);
+    let tableau = tableau_of(m, q, n, k, v);
+    let index = larger(q, n, k, total) + power(q, total) * place + tableau;
+    FerrersIndex(index)
+}
+
+// The number of dots of a diagram, and an index among the matrices whose diagrams have so many.
+struct SizedIndex {
+    size: usize,
+    rest: u64,
+}
+
+// The size of the diagram with the given Ferrers index, searched from the largest down, and the index among the matrices of that size.
+fn find_size(q: u64, n: usize, k: usize, index: u64) -> SizedIndex
+    requires { ⌜ Accepted q n k × (index < gaussian q n k) ⌝ }
+    ensures { λ r. ⌜ Found q n k index (r .size) (r .rest) ⌝ }
+{
+    let mut m = k * (n - k);
+    let mut rest = index;
+    while m > 0 {
+        let count = weight(q, n, k, m);
+        if rest < count {
+            return SizedIndex { size: m, rest };
+        }
+        rest -= count;
+        m -= 1;
+    }
+    SizedIndex { size: 0, rest }
+}
+
+// Writes the reduced matrix with the given tableau whose diagram of `size` dots has the given place, column by column from the right.
+// Of the diagrams of `dots` dots that are left, `earlier` come before this one, and the first `free` of them begin with a free column.
+fn draw(m: &mut [u8], q: u64, n: usize, k: usize, size: usize, place: u64, tableau: u64)
+    requires { ⌜ Accepted q n k × (size ≤ k * (n - k)) × (place < boxCount n k size) × (length (now m) ≡ k * n) ⌝ }
+    ensures { λ _. ⌜ now (m .exit) ≡ flatten k n (cell q (diagramShape q n k size place tableau) k n) ⌝ }
+{
+    let mut dots = size;
+    let mut earlier = place;
+    let mut entries = tableau;
+    let mut rows = k;
+    let mut columns = n;
+    while columns > 0 {
+        let c = columns - 1;
+        let free = free_boxes(c, rows, dots);
+        if earlier < free {
+            let base = power(q, dots - rows);
+            matrix::write_column(m, q, n, k, c, rows, entries / base);
+            entries = entries % base;
+            dots -= rows;
+        } else {
+            matrix::write_column(m, q, n, k, c, rows, 1);
+            earlier -= free;
+            rows -= 1;
+        }
+        columns = c;
+    }
+}
+
+// Writes the reduced matrix with the given Ferrers index.
+pub fn unrank(m: &mut [u8], q: u64, n: usize, k: usize, index: FerrersIndex)
+    requires { ⌜ Accepted q n k × (index .0 < gaussian q n k) × (length (now m) ≡ k * n) ⌝ }
+    ensures { λ _. ⌜ now (m .exit) ≡ drawnFerrers q n k (index .0) ⌝ }
+{
+    let found = find_size(q, n, k, index.0);
+    let base = power(q, found.size);
+    draw(m, q, n, k, found.size, found.rest / base, found.rest % base);
+}
