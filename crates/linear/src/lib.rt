@@ -1,0 +1,1 @@
+// Rows, spans and reduced matrices: definitions and theorems, no code.
