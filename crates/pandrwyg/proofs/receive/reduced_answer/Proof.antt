@@ -1,0 +1,125 @@
+-- `pandrwyg::receive::reduced_answer` meets its contract: the reduced rows stand first in the array, and are a reduced matrix.
+use mathlib.Core.Path.{_≡_, ap, ap₂, _∙_, sym, subst}
+use mathlib.Core.List.{List, _++_}
+use Prim.Native.Nat.{ℕ, min, _*_, _≤_}
+use native.Mathlib.Nat.{min-eq-left, mul-le-mul}
+use native.Mathlib.Omega.{arith}
+use lib.ListN.{length, take, drop, replicate, length-take, length-drop, length-append, length-replicate}
+use Rattle.matrix.specs.Decided.{entries-below}
+use Rattle.matrix.specs.Matrix.{Reduced}
+use Rattle.linear.specs.Span.{rowsOf}
+use Rattle.linear.specs.Eliminate.{reducedOf}
+use Rattle.pandrwyg.specs.Reception.{spaceAnswer}
+use Rattle.pandrwyg.specs.Front.{received-reduced, received-fits, received-front}
+use borrow.Author.Needs.{needs}
+use Rattle.pandrwyg.proofs.receive.reduced_answer.Statement.{statement}
+use Rattle.pandrwyg.proofs.receive.reduced_answer.Tie as tie
+
+zeros : ℕ → List ℕ
+zeros n = replicate n 0
+
+part : {size : ℕ} (n : ℕ) → size ≤ n → length (take size (zeros n)) ≡ size
+unfolding zeros
+part {size} n h = length-take size (zeros n) ∙ ap (min size) (length-replicate n 0) ∙ min-eq-left h
+
+square : {n : ℕ} → n ≤ 16 → n * n ≤ 256
+square {n} h = mul-le-mul {n₁ = n} {m₁ = n} {n₂ = 16} {m₂ = 16} h h
+
+mul-matrix : tie.Need-mul-matrix
+mul-matrix c = omega (arith, square (c .before .pre .0 .settings .narrow))
+
+array-borrow-prefix-matrix : tie.Need-array-borrow-prefix-matrix
+array-borrow-prefix-matrix c = square (c .before .pre .0 .settings .narrow)
+
+slice-aggregate-reduce : tie.Need-slice-aggregate-reduce
+unfolding zeros
+slice-aggregate-reduce c = sym (part 256 (square (c .before .before .pre .0 .settings .narrow)))
+
+array-borrow-prefix-row : tie.Need-array-borrow-prefix-row
+array-borrow-prefix-row c = search needs
+
+slice-aggregate-reduce-2 : tie.Need-slice-aggregate-reduce-2
+unfolding zeros
+slice-aggregate-reduce-2 c = sym (part 16 (c .before .before .before .pre .0 .settings .narrow))
+
+reduce-requires : tie.Need-reduce-requires
+unfolding zeros
+reduce-requires c κs =
+    let p = c .before .before .before .pre in
+    let h = p .0 .settings .narrow in
+    ((p .0 .settings .size, p .2, entries-below _ _ (p .3)), (part 256 (square h), part 16 h))
+
+-- what the reduction leaves: its rows fit, and stand first in the array
+module _ (c : tie.After-reduce) where
+  rows-fit : let s = c .before .before .before .before in c .reduce .result * s .args .n ≤ 256
+  rows-fit =
+      let s = c .before .before .before .before in
+      received-fits (s .args .q) (s .args .n) (s .args .row-count) (s .args .rows .now) (s .pre .0 .settings .size) (s .pre .2) (s .pre .3)
+      (c .reduce .result) (c .reduce .ensures .0) (s .pre .0 .settings .narrow)
+
+  -- the array after the reduction
+  array : List ℕ
+  array = let n = c .before .before .before .before .args .n in c .reduce .last .1 .1 .1 .1 .0 ++ drop (n * n) (zeros 256)
+
+  array-front : let s = c .before .before .before .before in
+      take (c .reduce .result * s .args .n) array ≡ reducedOf (s .args .q) (s .args .n) (rowsOf (s .args .n) (s .args .row-count) (s .args .rows .now))
+  unfolding array
+  array-front =
+      let s = c .before .before .before .before in
+      received-front (s .args .q) (s .args .n) (s .args .row-count) (s .args .rows .now) (s .pre .0 .settings .size) (s .pre .2) (s .pre .3)
+      (c .reduce .result) (c .reduce .last .1 .1 .1 .1 .0) (drop (s .args .n * s .args .n) (zeros 256)) (c .reduce .ensures .0) (c .reduce .ensures .1)
+
+  array-length : length array ≡ 256
+  unfolding array zeros
+  array-length =
+      let s = c .before .before .before .before in
+      let h : s .args .n * s .args .n ≤ 256 = square (s .pre .0 .settings .narrow) in
+      let l : length (c .reduce .last .1 .1 .1 .1 .0) ≡ s .args .n * s .args .n = c .reduce .kept .1 .1 .1 .1 .0 ∙ part 256 h in
+      length-append (c .reduce .last .1 .1 .1 .1 .0) (drop (s .args .n * s .args .n) (zeros 256))
+      ∙ omega (arith, l, h, length-drop (s .args .n * s .args .n) (zeros 256), length-replicate {A = ℕ} 256 0)
+
+  front-reduced : let s = c .before .before .before .before in
+      Reduced (s .args .q) (s .args .n) (c .reduce .result) (take (c .reduce .result * s .args .n) array)
+  front-reduced =
+      let s = c .before .before .before .before in
+      let r = received-reduced (s .args .q) (s .args .n) (s .args .row-count) (s .args .rows .now) (s .pre .0 .settings .size) (s .pre .2) (s .pre .3) in
+      subst (Reduced (s .args .q) (s .args .n) (c .reduce .result)) (sym array-front)
+      (subst (λ d. Reduced (s .args .q) (s .args .n) d (reducedOf (s .args .q) (s .args .n) (rowsOf (s .args .n) (s .args .row-count) (s .args .rows .now)))) (sym (c .reduce .ensures .0)) r)
+
+mul-matrix-2 : tie.Need-mul-matrix-2
+mul-matrix-2 c = omega (arith, rows-fit (c .before .before))
+
+array-share-prefix-matrix : tie.Need-array-share-prefix-matrix
+unfolding array zeros
+array-share-prefix-matrix c = omega (arith, rows-fit (c .before .before), array-length (c .before .before))
+
+slice-aggregate-space-answer : tie.Need-slice-aggregate-space-answer
+unfolding array zeros
+slice-aggregate-space-answer c = sym (front-reduced (c .before .before .before) .size)
+
+space-answer-requires : tie.Need-space-answer-requires
+unfolding array zeros
+space-answer-requires c κs = (c .before .before .before .before .before .before .before .pre .0 .settings, front-reduced (c .before .before .before))
+
+returns : tie.Need-returns
+unfolding array zeros
+returns c =
+    let r = c .before .before .before .before in
+    let a = r .before .before .before .before .args in
+    c .space-answer .ensures ∙ ap₂ (spaceAnswer (a .q) (a .n) (a .k) (a .t)) (r .reduce .ensures .0) (array-front r)
+
+pub reduced-answer-spec : {M : Type 1} → statement M
+reduced-answer-spec =
+    tie.close
+    (tie.spec
+    mul-matrix
+    array-borrow-prefix-matrix
+    slice-aggregate-reduce
+    array-borrow-prefix-row
+    slice-aggregate-reduce-2
+    reduce-requires
+    mul-matrix-2
+    array-share-prefix-matrix
+    slice-aggregate-space-answer
+    space-answer-requires
+    returns)

@@ -1,0 +1,95 @@
+-- `pandrwyg::reduce::reduce_refusal` meets its contract: the tests in their order, each passed or answered.
+use mathlib.Core.Path.{_≡_, _∙_, sym}
+use mathlib.Core.Bool.{true}
+use Prim.Native.Nat.{ℕ, _*_, _≤_}
+use native.Mathlib.Nat.{mul-le-mul}
+use native.Mathlib.Omega.{arith}
+use borrow.Author.Tests.{not-true, not-false}
+use Rattle.field.specs.Field.{isFieldSize}
+use Rattle.gaussian.specs.Settings.{rowLengthOk}
+use Rattle.gaussian.specs.SettingsLaws.{row-length-fits}
+use Rattle.pandrwyg.specs.ReceptionLaws.{reduce-size, reduce-row, reduce-count, reduce-input, reduce-output, reduce-entry, reduce-none}
+use borrow.Author.Needs.{needs}
+use Rattle.pandrwyg.proofs.reduce.reduce_refusal.Statement.{statement}
+use Rattle.pandrwyg.proofs.reduce.reduce_refusal.Tie as tie
+
+sized : (c : tie.Else1) → isFieldSize (c .before .before .before .args .q) ≡ true
+sized c = sym (c .before .is-size .ensures) ∙ not-false _ (c .if1 .left)
+
+long-enough : (c : tie.Else2) → rowLengthOk (c .before .before .before .before .before .args .n) ≡ true
+long-enough c = sym (c .before .row-length-ok .ensures) ∙ not-false _ (c .if2 .left)
+
+product : (n r : ℕ) → rowLengthOk n ≡ true → r ≤ 64 → r * n ≤ 1024
+product n r l h = mul-le-mul {n₁ = r} {m₁ = n} {n₂ = 64} {m₂ = 16} h (row-length-fits n l .1)
+
+square : (n : ℕ) → rowLengthOk n ≡ true → n * n ≤ 256
+square n l = mul-le-mul {n₁ = n} {m₁ = n} {n₂ = 16} {m₂ = 16} (row-length-fits n l .1) (row-length-fits n l .1)
+
+is-size-requires : tie.Need-is-size-requires
+is-size-requires c κs = search needs
+
+returns : tie.Need-returns
+returns c = sym (reduce-size _ _ _ _ _ (sym (c .before .is-size .ensures) ∙ not-true _ (c .if1 .taken)))
+
+row-length-ok-requires : tie.Need-row-length-ok-requires
+row-length-ok-requires c κs = search needs
+
+returns-2 : tie.Need-returns-2
+returns-2 c =
+    sym (reduce-row _ _ _ _ _ (sized (c .before .before)) (sym (c .before .row-length-ok .ensures) ∙ not-true _ (c .if2 .taken)))
+
+returns-3 : tie.Need-returns-3
+returns-3 c = sym (reduce-count _ _ _ _ _ (sized (c .before .before .before)) (long-enough (c .before)) (c .if3 .taken))
+
+mul-if4 : tie.Need-mul-if4
+mul-if4 c = omega (arith, product _ _ (long-enough (c .before)) (c .if3 .left))
+
+returns-4 : tie.Need-returns-4
+returns-4 c =
+    let l = c .before in
+    sym (reduce-input _ _ _ _ _ (sized (l .before .before .before)) (long-enough (l .before)) (l .if3 .left) (c .if4 .taken))
+
+mul-if5 : tie.Need-mul-if5
+mul-if5 c = omega (arith, square _ (long-enough (c .before .before)))
+
+returns-5 : tie.Need-returns-5
+returns-5 c =
+    let l = c .before .before in
+    sym
+    (reduce-output _ _ _ _ _ (sized (l .before .before .before)) (long-enough (l .before)) (l .if3 .left) (c .before .if4 .left) (c .if5 .taken))
+
+entries-below-requires : tie.Need-entries-below-requires
+entries-below-requires c κs = search needs
+
+returns-6 : tie.Need-returns-6
+returns-6 c =
+    let o = c .before .before in
+    let l = o .before .before in
+    sym
+    (reduce-entry _ _ _ _ _ (sized (l .before .before .before)) (long-enough (l .before)) (l .if3 .left) (o .before .if4 .left) (o .if5 .left)
+    (sym (c .before .entries-below .ensures) ∙ not-true _ (c .if6 .taken)))
+
+returns-7 : tie.Need-returns-7
+returns-7 c =
+    let o = c .before .before in
+    let l = o .before .before in
+    sym
+    (reduce-none _ _ _ _ _ (sized (l .before .before .before)) (long-enough (l .before)) (l .if3 .left) (o .before .if4 .left) (o .if5 .left)
+    (sym (c .before .entries-below .ensures) ∙ not-false _ (c .if6 .left)))
+
+pub reduce-refusal-spec : {M : Type 1} → statement M
+reduce-refusal-spec =
+    tie.close
+    (tie.spec
+    is-size-requires
+    returns
+    row-length-ok-requires
+    returns-2
+    returns-3
+    mul-if4
+    returns-4
+    mul-if5
+    returns-5
+    entries-below-requires
+    returns-6
+    returns-7)

@@ -1,0 +1,84 @@
+-- What a receiver that passes the test obeys; no part of the meaning.
+--   Sound r         == the settings are accepted, the dimension is at most n, the entries used are a reduced matrix, and the others are 0
+--   sound           == a receiver that passes the test, and has 256 entries as every real one has, is Sound
+--   well-formed     == a Sound receiver passes the test
+-- Assumes nothing.
+use mathlib.Core.Path.{_≡_, ap₂}
+use mathlib.Core.Bool.{Bool, true, false, _&&_, _||_}
+use mathlib.Core.Logic.{⊎-elim}
+use Prim.Native.Nat.{ℕ, _*_, _≤_, _<_}
+use native.Mathlib.Nat.{mul-le-mul}
+use native.Mathlib.Omega.{arith}
+use borrow.Author.Tests.{eq-eqb, lt-ltb, le-ltb, le-leb}
+use lib.Dec.{T, eqb, ltb, leb, eqb→eq, leb→le}
+use lib.ListN.{length, getD}
+use lib.Seq.{length-take-le}
+use Rattle.basics.specs.All.{allBelow-at, allBelow-true}
+use Rattle.basics.specs.Choice.{is-true, holds, or-left, or-right}
+use Rattle.basics.specs.Order.{le-or-lt}
+use Rattle.basics.specs.Test.{and-left, and-right}
+use Rattle.gaussian.specs.Settings.{settingsRefusal}
+use Rattle.gaussian.specs.SettingsLaws.{accepted}
+use Rattle.matrix.specs.Matrix.{entriesBelow, isReduced, Reduced}
+use Rattle.matrix.specs.Decided.{entries-below-true, reduced-exactly}
+use Rattle.pandrwyg.specs.Receiver.{used, restZero, wellFormed}
+use Rattle.pandrwyg.specs.declared.receiver.Receiver.{Receiver}
+
+pub record Sound (r : Receiver) : Type 0 where
+  pub settings : settingsRefusal (r .q) (r .n) (r .k) ≡ 0
+  pub fits : r .dimension ≤ r .n
+  pub reduced : Reduced (r .q) (r .n) (r .dimension) (used r)
+  pub rest : (i : ℕ) → i < 256 → r .dimension * r .n ≤ i → getD (r .entries) i 0 ≡ 0
+
+-- the entries used are among the 256
+pub used-fit : (q n k d : ℕ) → settingsRefusal q n k ≡ 0 → d ≤ n → d * n ≤ 256
+used-fit q n k d s h = let a = accepted q n k s in mul-le-mul {n₁ = d} {m₁ = n} {n₂ = 16} {m₂ = 16} (omega (arith, a .narrow)) (a .narrow)
+
+or-last : (a b : Bool) → T (a || b) → a ≡ false → T b
+or-last a b t e = rw e at t
+
+module _ (r : Receiver) where
+  pub sound : length (r .entries) ≡ 256 → wellFormed r ≡ true → Sound r
+  unfolding wellFormed restZero
+  sound size w =
+      let t₀ = holds (wellFormed r) w in
+      let t₁ = and-right (eqb (settingsRefusal (r .q) (r .n) (r .k)) 0) _ t₀ in
+      let t₂ = and-right (leb (r .dimension) (r .n)) _ t₁ in
+      let t₃ = and-right (entriesBelow (r .q) (used r)) _ t₂ in
+      let s : settingsRefusal (r .q) (r .n) (r .k) ≡ 0 = eqb→eq _ 0 (and-left (eqb (settingsRefusal (r .q) (r .n) (r .k)) 0) _ t₀) in
+      let h : r .dimension ≤ r .n = leb→le _ _ (and-left (leb (r .dimension) (r .n)) _ t₁) in
+      let l : length (used r) ≡ r .dimension * r .n =
+      length-take-le (r .dimension * r .n) (r .entries) (omega (arith, used-fit (r .q) (r .n) (r .k) (r .dimension) s h))
+      in
+      record {
+        settings = s;
+        fits = h;
+        reduced =
+            reduced-exactly (r .q) (r .n) (r .dimension) (used r) l (and-left (entriesBelow (r .q) (used r)) _ t₂) .0
+            (and-left (isReduced (r .n) (r .dimension) (used r)) _ t₃);
+        rest =
+            λ i b g.
+            eqb→eq (getD (r .entries) i 0) 0
+            (or-last (ltb i (r .dimension * r .n)) _
+            (allBelow-at 256 (λ i. ltb i (r .dimension * r .n) || eqb (getD (r .entries) i 0) 0)
+            (and-right (isReduced (r .n) (r .dimension) (used r)) _ t₃) i b) (le-ltb i (r .dimension * r .n) g));
+      }
+
+  pub well-formed : Sound r → wellFormed r ≡ true
+  unfolding wellFormed restZero
+  well-formed s =
+      ap₂ _&&_ (eq-eqb _ 0 (s .settings))
+      (ap₂ _&&_ (le-leb _ _ (s .fits)) (ap₂ _&&_ below (ap₂ _&&_ (is-true (isReduced (r .n) (r .dimension) (used r)) shape) others)))
+    where
+      below : entriesBelow (r .q) (used r) ≡ true
+      below = entries-below-true (r .q) (used r) (λ i h. s .reduced .below i (omega (arith, s .reduced .size)))
+
+      shape : T (isReduced (r .n) (r .dimension) (used r))
+      shape = reduced-exactly (r .q) (r .n) (r .dimension) (used r) (s .reduced .size) (holds (entriesBelow (r .q) (used r)) below) .1 (s .reduced)
+
+      others : restZero (r .dimension * r .n) (r .entries) ≡ true
+      others =
+          allBelow-true 256 (λ i. ltb i (r .dimension * r .n) || eqb (getD (r .entries) i 0) 0)
+          (λ i b.
+          ⊎-elim (λ g. or-right (ltb i (r .dimension * r .n)) _ (eq-eqb (getD (r .entries) i 0) 0 (s .rest i b g)))
+          (λ g. or-left (ltb i (r .dimension * r .n)) _ (lt-ltb i (r .dimension * r .n) g)) (le-or-lt (r .dimension * r .n) i))

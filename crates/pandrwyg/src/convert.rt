@@ -1,0 +1,50 @@
+// Convert: an index of one numbering to that of the same space in the other.
+ghost use mathlib.Core.Path.{_≡_};
+ghost use Rattle.pandrwyg.specs.Calls.{convertRefusal, counterpart as counterpartOf, convertOf};
+use crate::answer::Numbered;
+use crate::choice;
+use crate::draw;
+use crate::number;
+
+// The first refusal of Convert, but for 15, that applies; 0 where none does.
+fn convert_refusal(q: u64, n: u64, k: u64, from: u64, to: u64, index: u64) -> u32
+    ensures { λ r. ⌜ r ≡ convertRefusal q n k from to index ⌝ }
+{
+    let choice = choice::choice_refusal(q, n, k, from);
+    if choice != 0 {
+        return choice;
+    }
+    if !choice::is_numbering(to) {
+        return refusal::NUMBERING;
+    }
+    if gaussian::coefficient(q, n, k) <= index {
+        return refusal::INDEX;
+    }
+    0
+}
+
+// The number in the other numbering, any refusal of which becomes 15.
+fn counterpart(found: Numbered) -> Numbered
+    ensures { λ r. ⌜ r ≡ counterpartOf found ⌝ }
+{
+    match found {
+        Numbered::Extended(index) => Numbered::Extended(index),
+        Numbered::Ferrers(index) => Numbered::Ferrers(index),
+        Numbered::Refused(_) => Numbered::Refused(refusal::NO_COUNTERPART),
+    }
+}
+
+// Convert: the index, in the numbering `to`, of the matrix that has the given index in the numbering `from`.
+// Refuses 1, 2, 3; 10 for the first numbering, then the second; 5; 15 if the drawn matrix has no number in the other numbering.
+pub fn convert(q: u64, n: u64, k: u64, from: u64, to: u64, index: u64) -> Numbered
+    ensures { λ r. ⌜ r ≡ convertOf q n k from to index ⌝ }
+{
+    let refusal = convert_refusal(q, n, k, from, to, index);
+    if refusal != 0 {
+        return Numbered::Refused(refusal);
+    }
+    let mut entries = [0u8; 256];
+    let size = (k * n) as usize;
+    draw::fill(&mut entries[..size], q, n, k, from, index);
+    counterpart(number::number(q, n, k, to, &entries[..size]))
+}

@@ -1,0 +1,56 @@
+// Reduce: the reduced matrix of the span of some rows.
+ghost use mathlib.Core.Path.{_≡_};
+ghost use lib.ListN.{length};
+ghost use Rattle.pandrwyg.specs.Reception.{reduceRefusal, reduceOf, reduceBuffer};
+use crate::answer::Reduction;
+use crate::answer::Space;
+
+// The first refusal of Reduce that applies; 0 where none does.
+fn reduce_refusal(q: u64, n: u64, row_count: u64, rows: &[u8], size: usize) -> u32
+    ensures { λ r. ⌜ r ≡ reduceRefusal q n «row_count» (now (rows .entry)) size ⌝ }
+{
+    if !field::is_size(q) {
+        return refusal::FIELD_SIZE;
+    }
+    if !gaussian::row_length_ok(n) {
+        return refusal::SHAPE;
+    }
+    if 64 < row_count {
+        return refusal::ROW_COUNT;
+    }
+    if rows.len() as u64 != row_count * n {
+        return refusal::LENGTH;
+    }
+    if size as u64 != n * n {
+        return refusal::LENGTH;
+    }
+    if !matrix::entries_below(rows, q) {
+        return refusal::ENTRY;
+    }
+    0
+}
+
+// Reduce: writes the reduced matrix of the rows' span to `output`, then zeros, and answers the dimension.
+// Refuses 1, 2 (for n alone), 13, 4 (the rows are not row_count×n bytes, or the output not n×n), 6.
+pub fn reduce(q: u64, n: u64, row_count: u64, rows: &[u8], output: &mut [u8]) -> Reduction
+    ensures { λ r. ⌜ r ≡ reduceOf q n «row_count» (now (rows .entry)) (length (now (output .entry))) ⌝ }
+    ensures { λ _. ⌜ now (output .exit) ≡ reduceBuffer q n «row_count» (now (rows .entry)) (now (output .entry)) ⌝ }
+{
+    let refusal = reduce_refusal(q, n, row_count, rows, output.len());
+    if refusal != 0 {
+        return Reduction::Refused(refusal);
+    }
+    let width = n as usize;
+    let mut row = [0u8; 16];
+    let dimension = reduction::reduce(
+        q,
+        width,
+        row_count as usize,
+        rows,
+        output,
+        &mut row[..width],
+    );
+    Reduction::Done(Space {
+        dimension: dimension as u64,
+    })
+}
