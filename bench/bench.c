@@ -1,0 +1,281 @@
+/*
+ * Times the library beside the second implementation in one run, and measures the stack that the two C calls use.
+ * A time is the median of several samples, taken by turns, each over prepared random inputs; a ratio above 1 says
+ * how many times longer the library takes.
+ */
+#define _XOPEN_SOURCE 700
+
+#include "cases.h"
+#include "harness.h"
+
+#include <stdio.h>
+#include <stdlib.h>
+#include <time.h>
+#include <ucontext.h>
+
+enum { INPUTS = 64, SAMPLES = 15, SAMPLE_NANOSECONDS = 1000000, SQUARE = MAX_LENGTH * MAX_LENGTH };
+
+/* ---- Prepared inputs ---- */
+
+static setting now;
+static uint64_t numbering, row_count;
+static uint64_t indexes[INPUTS];
+static uint8_t matrices[INPUTS][SQUARE], rows[INPUTS][ROWS_LIMIT], out[SQUARE], answer[9];
+
+/* What the calls answer goes here, so that none is left out by the compiler. */
+static volatile uint64_t sink;
+
+static size_t width(void)
+{
+    return (size_t)(now.k * now.n);
+}
+
+/* Random linear combinations of the matrix that have its span. */
+static void mix_matrix(const uint8_t *matrix, uint8_t *mixed)
+{
+    uint8_t factors[MAX_LENGTH];
+    uint64_t dimension;
+    do {
+        for (uint64_t row = 0; row < row_count; row++) {
+            random_entries(now.q, factors, (size_t)now.k);
+            mix_rows(now.q, now.n, now.k, matrix, factors, mixed + row * now.n);
+        }
+        second_reduce(now.q, now.n, row_count, mixed, (size_t)(row_count * now.n), out, (size_t)(now.n * now.n),
+                      &dimension);
+    } while (dimension != now.k);
+}
+
+static void prepare(setting s, uint64_t chosen, uint64_t mixed_rows)
+{
+    now = s;
+    numbering = chosen;
+    row_count = mixed_rows;
+    second_count(now.q, now.n, now.k, &now.count);
+    for (unsigned input = 0; input < INPUTS; input++) {
+        indexes[input] = random_next() % now.count;
+        second_draw(now.q, now.n, now.k, numbering, indexes[input], matrices[input], width());
+        if (row_count > 0)
+            mix_matrix(matrices[input], rows[input]);
+    }
+}
+
+static void prepare_reduce(uint64_t q, uint64_t n)
+{
+    now = (setting){q, n, n, 1};
+    row_count = MAX_ROWS;
+    for (unsigned input = 0; input < INPUTS; input++)
+        random_entries(q, rows[input], (size_t)(row_count * n));
+}
+
+/* ---- Calls over all inputs ---- */
+
+static void draw_library(void)
+{
+    for (unsigned input = 0; input < INPUTS; input++)
+        sink += pandrwyg_draw(now.q, now.n, now.k, numbering, indexes[input], out, width());
+}
+
+static void draw_second(void)
+{
+    for (unsigned input = 0; input < INPUTS; input++)
+        sink += second_draw(now.q, now.n, now.k, numbering, indexes[input], out, width());
+}
+
+static void number_library(void)
+{
+    for (unsigned input = 0; input < INPUTS; input++)
+        sink += harness_number(now.q, now.n, now.k, numbering, matrices[input], width()).value;
+}
+
+static void number_second(void)
+{
+    for (unsigned input = 0; input < INPUTS; input++) {
+        uint64_t index;
+        second_number(now.q, now.n, now.k, numbering, matrices[input], width(), &index);
+        sink += index;
+    }
+}
+
+static void reduce_library(void)
+{
+    for (unsigned input = 0; input < INPUTS; input++)
+        sink += harness_reduce(now.q, now.n, row_count, rows[input], (size_t)(row_count * now.n), out,
+                               (size_t)(now.n * now.n)).dimension;
+}
+
+static void reduce_second(void)
+{
+    for (unsigned input = 0; input < INPUTS; input++) {
+        uint64_t dimension;
+        second_reduce(now.q, now.n, row_count, rows[input], (size_t)(row_count * now.n), out,
+                      (size_t)(now.n * now.n), &dimension);
+        sink += dimension;
+    }
+}
+
+static void receive_library(void)
+{
+    for (unsigned input = 0; input < INPUTS; input++)
+        sink += pandrwyg_receive(now.q, now.n, now.k, numbering, row_count, rows[input],
+                                 (size_t)(row_count * now.n), answer, sizeof answer);
+}
+
+static void receive_second(void)
+{
+    for (unsigned input = 0; input < INPUTS; input++) {
+        uint64_t index, dimension;
+        second_receive(now.q, now.n, now.k, numbering, row_count, rows[input], (size_t)(row_count * now.n),
+                       &index, &dimension);
+        sink += index;
+    }
+}
+
+/* ---- Time ---- */
+
+static double nanoseconds(void)
+{
+    struct timespec time;
+    clock_gettime(CLOCK_MONOTONIC, &time);
+    return (double)time.tv_sec * 1e9 + (double)time.tv_nsec;
+}
+
+static double sample(void (*calls)(void), uint64_t repeats)
+{
+    double start = nanoseconds();
+    for (uint64_t repeat = 0; repeat < repeats; repeat++)
+        calls();
+    return nanoseconds() - start;
+}
+
+/* Warms up, and answers how many repeats make a sample long enough. */
+static uint64_t calibrate(void (*calls)(void))
+{
+    uint64_t repeats = 1;
+    while (sample(calls, repeats) < SAMPLE_NANOSECONDS)
+        repeats *= 2;
+    return repeats;
+}
+
+static int compare_times(const void *first, const void *second)
+{
+    double one = *(const double *)first, two = *(const double *)second;
+    return (one > two) - (one < two);
+}
+
+static double median(double *times)
+{
+    qsort(times, SAMPLES, sizeof *times, compare_times);
+    return times[SAMPLES / 2];
+}
+
+/* Both sides by turns; prints one line. */
+static void compare(const char *name, void (*library)(void), void (*second)(void))
+{
+    double library_times[SAMPLES], second_times[SAMPLES];
+    uint64_t library_repeats = calibrate(library), second_repeats = calibrate(second);
+    for (unsigned place = 0; place < SAMPLES; place++) {
+        library_times[place] = sample(library, library_repeats) / (double)(library_repeats * INPUTS);
+        second_times[place] = sample(second, second_repeats) / (double)(second_repeats * INPUTS);
+    }
+    double library_time = median(library_times), second_time = median(second_times);
+    printf("%-44s %12.1f %12.1f %9.2f\n", name, library_time, second_time, library_time / second_time);
+}
+
+static void compare_setting(setting s, uint64_t chosen)
+{
+    char name[64];
+    const char *order = chosen == EXTENDED ? "extended" : "Ferrers";
+    prepare(s, chosen, 0);
+    snprintf(name, sizeof name, "draw " SETTING_FORMAT " %s", SETTING_VALUES(&s), order);
+    compare(name, draw_library, draw_second);
+    snprintf(name, sizeof name, "number " SETTING_FORMAT " %s", SETTING_VALUES(&s), order);
+    compare(name, number_library, number_second);
+    prepare(s, chosen, s.k);
+    snprintf(name, sizeof name, "receive %" PRIu64 " rows " SETTING_FORMAT " %s", s.k, SETTING_VALUES(&s), order);
+    compare(name, receive_library, receive_second);
+    prepare(s, chosen, MAX_ROWS);
+    snprintf(name, sizeof name, "receive 64 rows " SETTING_FORMAT " %s", SETTING_VALUES(&s), order);
+    compare(name, receive_library, receive_second);
+}
+
+static void compare_times_of_all(void)
+{
+    static const setting chosen[] = {
+        {2, 6, 3, 0}, {2, 16, 6, 0}, {2, 16, 10, 0}, {3, 12, 5, 0}, {5, 10, 4, 0}, {7, 9, 4, 0},
+    };
+    printf("%-44s %12s %12s %9s\n", "call", "library ns", "second ns", "ratio");
+    for (unsigned place = 0; place < sizeof chosen / sizeof *chosen; place++) {
+        compare_setting(chosen[place], EXTENDED);
+        compare_setting(chosen[place], FERRERS);
+    }
+    prepare_reduce(2, 16);
+    compare("reduce 64 rows q=2 n=16", reduce_library, reduce_second);
+    prepare_reduce(7, 8);
+    compare("reduce 64 rows q=7 n=8", reduce_library, reduce_second);
+}
+
+/* ---- Stack ---- */
+
+enum { STACK_LENGTH = 1 << 20, PAINT = 0xC3 };
+
+static uint8_t *stack;
+static ucontext_t outer, inner;
+
+static void call_nothing(void)
+{
+}
+
+static void call_draw(void)
+{
+    sink += pandrwyg_draw(now.q, now.n, now.k, numbering, indexes[0], out, width());
+}
+
+static void call_receive(void)
+{
+    sink += pandrwyg_receive(now.q, now.n, now.k, numbering, row_count, rows[0], (size_t)(row_count * now.n),
+                             answer, sizeof answer);
+}
+
+/* Runs a call on a painted stack and answers how many bytes, from the top to the deepest written, it reached. */
+static size_t stack_reach(void (*call)(void))
+{
+    memset(stack, PAINT, STACK_LENGTH);
+    getcontext(&inner);
+    inner.uc_stack.ss_sp = stack;
+    inner.uc_stack.ss_size = STACK_LENGTH;
+    inner.uc_link = &outer;
+    makecontext(&inner, call, 0);
+    swapcontext(&outer, &inner);
+    size_t untouched = 0;
+    while (untouched < STACK_LENGTH && stack[untouched] == PAINT)
+        untouched++;
+    return STACK_LENGTH - untouched;
+}
+
+/* The most that a call uses over all accepted settings, without what an empty call uses. */
+static size_t stack_use(void (*call)(void))
+{
+    setting settings[SETTING_LIMIT];
+    size_t count = accepted_settings(settings, UINT64_MAX), most = 0;
+    size_t empty = stack_reach(call_nothing);
+    for (size_t place = 0; place < 2 * count; place++) {
+        prepare(settings[place / 2], 1 + place % 2, MAX_ROWS);
+        call();
+        size_t reach = stack_reach(call);
+        most = reach > most ? reach : most;
+    }
+    return most - empty;
+}
+
+int main(void)
+{
+    second_init();
+    compare_times_of_all();
+    stack = malloc(STACK_LENGTH);
+    if (stack == NULL)
+        return 1;
+    printf("stack of draw, all settings: %zu bytes\n", stack_use(call_draw));
+    printf("stack of receive of 64 rows, all settings: %zu bytes\n", stack_use(call_receive));
+    free(stack);
+    return 0;
+}

@@ -1,0 +1,96 @@
+/*
+ * The second implementation: numbers the k-dimensional spaces of rows of length n over a small field.
+ *
+ * It is of other make than the library that it tests. Counts come from formula (1), partition counts from the
+ * product formula of the Gaussian coefficient, reduction from Gauss-Jordan elimination column by column, and a
+ * whole listing from sorting all reduced matrices by comparing two of them at a time. Formula numbers are those of
+ * document 001; calls, refusals and orders are those of document 01.
+ *
+ * Every call answers a refusal number, 0 for done. A refused call leaves lent buffers as they were and sets the
+ * index, count and dimension to 0, except that too few and too many dimensions also give the dimension.
+ */
+#ifndef SECOND_H
+#define SECOND_H
+
+#include <stddef.h>
+#include <stdint.h>
+
+/* Document 01's refusal numbers, in its words. */
+enum {
+    ACCEPTED = 0,
+    REFUSED_FIELD = 1,           /* q is none of the field sizes */
+    REFUSED_SHAPE = 2,           /* n is outside 1 to 16 or k exceeds n */
+    REFUSED_COUNT = 3,           /* N exceeds 2^64 - 1 */
+    REFUSED_LENGTH = 4,          /* a lent buffer isn't exactly as long as it must be */
+    REFUSED_INDEX = 5,           /* the index is N or more */
+    REFUSED_ENTRY = 6,           /* an entry is q or more */
+    REFUSED_UNREDUCED = 7,       /* the matrix isn't reduced */
+    REFUSED_TOO_FEW = 8,         /* the span has fewer than k dimensions */
+    REFUSED_TOO_MANY = 9,        /* the span has more than k dimensions */
+    REFUSED_NUMBERING = 10,      /* the numbering is neither 1 nor 2 */
+    REFUSED_ROW_COUNT = 13,      /* there are more than 64 rows */
+    REFUSED_NO_COUNTERPART = 15  /* the drawn matrix has no number in the other numbering; never given here */
+};
+
+/* Document 01's two numberings. */
+enum { EXTENDED = 1, FERRERS = 2 };
+
+/* The limits of the settings, the length of the table of counts, and the four field sizes in the table's sequence. */
+enum { MAX_LENGTH = 16, MAX_ROWS = 64, TABLE_LENGTH = 1156, FIELD_COUNT = 4 };
+extern const uint64_t second_field_sizes[FIELD_COUNT];
+
+/* Fills the tables that all other calls read; to be called once before them. */
+void second_init(void);
+
+/* The sum and the product of two entries in the field of q. */
+uint8_t second_field_add(uint64_t q, uint8_t left, uint8_t right);
+uint8_t second_field_multiply(uint64_t q, uint8_t left, uint8_t right);
+
+/* One of the 1,156 counts, by place; 0 at a count above 2^64 - 1, at k > n, and at a place outside the table. */
+uint64_t second_table_entry(unsigned place);
+
+/* Count: the number of spaces. Refuses 1, 2, 3. */
+uint32_t second_count(uint64_t q, uint64_t n, uint64_t k, uint64_t *count);
+
+/* Number: matrix to index by formulas (5), and (12) with (14). Refuses 1, 2, 3, 10, 4, 6, 7. */
+uint32_t second_number(uint64_t q, uint64_t n, uint64_t k, uint64_t numbering,
+                       const uint8_t *matrix, size_t length, uint64_t *index);
+
+/* Draw: index to matrix by algorithms A, B and C. Refuses 1, 2, 3, 10, 4, 5. */
+uint32_t second_draw(uint64_t q, uint64_t n, uint64_t k, uint64_t numbering,
+                     uint64_t index, uint8_t *matrix, size_t length);
+
+/* Convert: an index from one numbering to the other. Refuses 1, 2, 3, 10 for either numbering, 5. */
+uint32_t second_convert(uint64_t q, uint64_t n, uint64_t k, uint64_t from, uint64_t to,
+                        uint64_t index, uint64_t *converted);
+
+/* Reduce: r rows to the n x n bytes of the reduced rows, then zeros. Refuses 1, 2 for n only, 13, 4, 6. */
+uint32_t second_reduce(uint64_t q, uint64_t n, uint64_t r, const uint8_t *rows, size_t rows_length,
+                       uint8_t *out, size_t out_length, uint64_t *dimension);
+
+/* Receive: r rows to the index of their span. Refuses 1, 2, 3, 10, 13, 4, 6, 8, 9. */
+uint32_t second_receive(uint64_t q, uint64_t n, uint64_t k, uint64_t numbering, uint64_t r,
+                        const uint8_t *rows, size_t rows_length, uint64_t *index, uint64_t *dimension);
+
+/* The identifying vector of a reduced matrix: column j from the right has the value 2^(j-1). */
+uint32_t second_identifying_vector(uint64_t n, uint64_t k, const uint8_t *matrix);
+
+/*
+ * The Ferrers tableaux form of a reduced matrix: F_1, F_2, ... go to heights (n - k of them), the entries at the dots
+ * to entries, column by column from the right and each from top to bottom. Answers the size m.
+ */
+unsigned second_tableau(uint64_t n, uint64_t k, const uint8_t *matrix, uint8_t *heights, uint8_t *entries);
+
+/* Below 0, 0 or above 0 as the first reduced matrix comes before, is, or comes after the second in the order. */
+int second_extended_compare(uint64_t q, uint64_t n, uint64_t k, const uint8_t *first, const uint8_t *second);
+int second_ferrers_compare(uint64_t q, uint64_t n, uint64_t k, const uint8_t *first, const uint8_t *second);
+int second_compare(uint64_t q, uint64_t n, uint64_t k, uint64_t numbering,
+                   const uint8_t *first, const uint8_t *second);
+
+/* Writes all reduced k x n matrices one after another (N*k*n bytes) and answers how many there are. */
+size_t second_enumerate(uint64_t q, uint64_t n, uint64_t k, uint8_t *out);
+
+/* Sorts matrices that stand one after another by the numbering's order; the place is then the index. */
+void second_sort(uint64_t q, uint64_t n, uint64_t k, uint64_t numbering, uint8_t *matrices, size_t count);
+
+#endif

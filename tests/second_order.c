@@ -1,0 +1,179 @@
+/*
+ * The two orders as comparisons of two matrices, and the listing of all reduced matrices. No index formula, count or
+ * table stands here: an index is a place in a sorted list.
+ */
+#include "second.h"
+
+#include <stdbool.h>
+#include <stdlib.h>
+#include <string.h>
+
+enum { MATRIX_LIMIT = MAX_LENGTH * MAX_LENGTH };
+
+/* ---- What the orders look at ---- */
+
+static unsigned pivot_column(const uint8_t *row, unsigned n)
+{
+    unsigned column = 0;
+    while (column < n && row[column] == 0)
+        column++;
+    return column;
+}
+
+uint32_t second_identifying_vector(uint64_t n, uint64_t k, const uint8_t *matrix)
+{
+    uint32_t vector = 0;
+    for (uint64_t row = 0; row < k; row++) {
+        unsigned column = pivot_column(matrix + row * n, (unsigned)n);
+        if (column < n)
+            vector |= UINT32_C(1) << (n - 1 - column);
+    }
+    return vector;
+}
+
+/* The rows whose pivot is to the left of column j from the right. */
+static unsigned dots(uint32_t vector, unsigned j)
+{
+    unsigned count = 0;
+    for (uint32_t rest = vector >> j; rest != 0; rest &= rest - 1)
+        count++;
+    return count;
+}
+
+unsigned second_tableau(uint64_t n, uint64_t k, const uint8_t *matrix, uint8_t *heights, uint8_t *entries)
+{
+    uint32_t vector = second_identifying_vector(n, k, matrix);
+    unsigned m = 0;
+    for (unsigned j = 1; j <= n; j++) {
+        if (vector >> (j - 1) & 1)
+            continue;
+        unsigned height = dots(vector, j);
+        *heights++ = (uint8_t)height;
+        for (unsigned row = 0; row < height; row++)
+            entries[m++] = matrix[row * n + (n - j)];
+    }
+    return m;
+}
+
+/* ---- The orders ---- */
+
+/* Columns j of two matrices as numbers, the top row most significant. */
+static int compare_columns(unsigned n, unsigned k, unsigned j, const uint8_t *first, const uint8_t *second)
+{
+    for (unsigned row = 0; row < k; row++) {
+        unsigned place = row * n + (n - j);
+        if (first[place] != second[place])
+            return first[place] < second[place] ? -1 : 1;
+    }
+    return 0;
+}
+
+int second_extended_compare(uint64_t q, uint64_t n, uint64_t k, const uint8_t *first, const uint8_t *second)
+{
+    uint32_t first_vector = second_identifying_vector(n, k, first);
+    uint32_t second_vector = second_identifying_vector(n, k, second);
+    int order = 0;
+    (void)q;
+    for (unsigned j = 1; j <= n && order == 0; j++) {
+        order = (int)(first_vector >> (j - 1) & 1) - (int)(second_vector >> (j - 1) & 1);
+        if (order == 0)
+            order = compare_columns((unsigned)n, (unsigned)k, j, first, second);
+    }
+    return order;
+}
+
+int second_ferrers_compare(uint64_t q, uint64_t n, uint64_t k, const uint8_t *first, const uint8_t *second)
+{
+    uint8_t first_heights[MAX_LENGTH], second_heights[MAX_LENGTH];
+    uint8_t first_entries[MATRIX_LIMIT], second_entries[MATRIX_LIMIT];
+    unsigned first_size = second_tableau(n, k, first, first_heights, first_entries);
+    unsigned second_size = second_tableau(n, k, second, second_heights, second_entries);
+    (void)q;
+    if (first_size != second_size)
+        return first_size > second_size ? -1 : 1;
+    for (unsigned i = 0; i < n - k; i++)
+        if (first_heights[i] != second_heights[i])
+            return first_heights[i] > second_heights[i] ? -1 : 1;
+    return memcmp(first_entries, second_entries, first_size);
+}
+
+int second_compare(uint64_t q, uint64_t n, uint64_t k, uint64_t numbering,
+                   const uint8_t *first, const uint8_t *second)
+{
+    if (numbering == EXTENDED)
+        return second_extended_compare(q, n, k, first, second);
+    return second_ferrers_compare(q, n, k, first, second);
+}
+
+/* ---- The listing ---- */
+
+/* The places of the entries that a set of pivot columns leaves free; the pivots themselves are written. */
+static unsigned place_pivots(unsigned n, uint32_t columns, uint8_t *matrix, unsigned *places)
+{
+    unsigned count = 0, row = 0;
+    for (unsigned pivot = 0; pivot < n; pivot++) {
+        if (!(columns >> pivot & 1))
+            continue;
+        matrix[row * n + pivot] = 1;
+        for (unsigned column = pivot + 1; column < n; column++)
+            if (!(columns >> column & 1))
+                places[count++] = row * n + column;
+        row++;
+    }
+    return count;
+}
+
+/* Steps the free entries like an odometer; false when all have been seen. */
+static bool next_filling(uint64_t q, uint8_t *matrix, const unsigned *places, unsigned count)
+{
+    for (unsigned place = 0; place < count; place++) {
+        matrix[places[place]]++;
+        if (matrix[places[place]] < q)
+            return true;
+        matrix[places[place]] = 0;
+    }
+    return false;
+}
+
+/* Writes all reduced matrices with these pivot columns and answers how many there are. */
+static size_t fill_all(uint64_t q, unsigned n, unsigned k, uint32_t columns, uint8_t *out)
+{
+    uint8_t matrix[MATRIX_LIMIT] = {0};
+    unsigned places[MATRIX_LIMIT];
+    unsigned free_count = place_pivots(n, columns, matrix, places);
+    size_t written = 0;
+    do {
+        memcpy(out + written * k * n, matrix, (size_t)k * n);
+        written++;
+    } while (next_filling(q, matrix, places, free_count));
+    return written;
+}
+
+size_t second_enumerate(uint64_t q, uint64_t n, uint64_t k, uint8_t *out)
+{
+    size_t written = 0;
+    for (uint32_t columns = 0; columns < UINT32_C(1) << n; columns++)
+        if (dots(columns, 0) == k)
+            written += fill_all(q, (unsigned)n, (unsigned)k, columns, out + written * k * n);
+    return written;
+}
+
+/* The setting of the sort under way; qsort hands its comparison no more than the two matrices. */
+static struct {
+    uint64_t q, n, k, numbering;
+} sorting;
+
+static int compare_for_sort(const void *first, const void *second)
+{
+    return second_compare(sorting.q, sorting.n, sorting.k, sorting.numbering, first, second);
+}
+
+void second_sort(uint64_t q, uint64_t n, uint64_t k, uint64_t numbering, uint8_t *matrices, size_t count)
+{
+    sorting.q = q;
+    sorting.n = n;
+    sorting.k = k;
+    sorting.numbering = numbering;
+    if (k > 0)
+        qsort(matrices, count, (size_t)(k * n), compare_for_sort);
+}

@@ -1,0 +1,242 @@
+/*
+ * Tables of the second implementation: field arithmetic, counts by formula (1) on big numbers, partition counts as
+ * the coefficients of the Gaussian coefficient's product formula; and the calls that only read them.
+ */
+#include "second_parts.h"
+
+#include <assert.h>
+
+__extension__ typedef unsigned __int128 wide;
+
+const uint64_t second_field_sizes[FIELD_COUNT] = {2, 3, 5, 7};
+
+second_field second_fields[FIELD_LIMIT + 1];
+uint64_t second_powers[FIELD_LIMIT + 1][SIZE_LIMIT + 1];
+uint64_t second_gaussian[FIELD_LIMIT + 1][MAX_LENGTH + 1][MAX_LENGTH + 1];
+uint32_t second_partitions[MAX_LENGTH + 1][MAX_LENGTH + 1][SIZE_LIMIT + 1];
+uint64_t second_tails[FIELD_LIMIT + 1][MAX_LENGTH + 1][MAX_LENGTH + 1][SIZE_LIMIT + 1];
+
+/* ---- Fields ---- */
+
+/* Sum and product define a field; the differences and inverses follow from them. */
+static unsigned field_sum(unsigned q, unsigned left, unsigned right)
+{
+    return (left + right) % q;
+}
+
+static unsigned field_product(unsigned q, unsigned left, unsigned right)
+{
+    return left * right % q;
+}
+
+static void fill_pair(unsigned q, unsigned left, unsigned right)
+{
+    second_field *field = &second_fields[q];
+    unsigned sum = field_sum(q, left, right);
+    unsigned product = field_product(q, left, right);
+    field->sum[left][right] = (uint8_t)sum;
+    field->product[left][right] = (uint8_t)product;
+    field->difference[sum][right] = (uint8_t)left;
+    if (product == 1)
+        field->inverse[left] = (uint8_t)right;
+}
+
+/* A step of elimination as one look: c - a * b. */
+static void fill_steps(unsigned q, unsigned left, unsigned right)
+{
+    second_field *field = &second_fields[q];
+    unsigned product = field->product[left][right];
+    for (unsigned from = 0; from < q; from++)
+        field->less_product[left][right][from] = field->difference[from][product];
+}
+
+static void fill_field(unsigned q)
+{
+    for (unsigned code = 0; code < q * q; code++)
+        fill_pair(q, code / q, code % q);
+    for (unsigned code = 0; code < q * q; code++)
+        fill_steps(q, code / q, code % q);
+}
+
+static void fill_powers(unsigned q)
+{
+    wide power = 1;
+    for (unsigned exponent = 0; exponent <= SIZE_LIMIT && power <= UINT64_MAX; exponent++) {
+        second_powers[q][exponent] = (uint64_t)power;
+        power *= q;
+    }
+}
+
+uint8_t second_field_add(uint64_t q, uint8_t left, uint8_t right)
+{
+    return second_fields[q].sum[left][right];
+}
+
+uint8_t second_field_multiply(uint64_t q, uint8_t left, uint8_t right)
+{
+    return second_fields[q].product[left][right];
+}
+
+/* ---- Big numbers, least limb first; 512 bits hold every product of formula (1) ---- */
+
+enum { LIMBS = 16 };
+
+typedef struct {
+    uint32_t limbs[LIMBS];
+} big;
+
+static void big_multiply(big *number, uint64_t factor)
+{
+    wide carry = 0;
+    for (unsigned place = 0; place < LIMBS; place++) {
+        carry += (wide)number->limbs[place] * factor;
+        number->limbs[place] = (uint32_t)carry;
+        carry >>= 32;
+    }
+    assert(carry == 0);
+}
+
+static void big_divide_exactly(big *number, uint64_t divisor)
+{
+    wide rest = 0;
+    for (unsigned place = LIMBS; place-- > 0;) {
+        rest = rest << 32 | number->limbs[place];
+        number->limbs[place] = (uint32_t)(rest / divisor);
+        rest %= divisor;
+    }
+    assert(rest == 0);
+}
+
+/* The number, or 0 if it exceeds 2^64 - 1. */
+static uint64_t big_to_table(const big *number)
+{
+    for (unsigned place = 2; place < LIMBS; place++)
+        if (number->limbs[place] != 0)
+            return 0;
+    return (uint64_t)number->limbs[1] << 32 | number->limbs[0];
+}
+
+/* ---- Counts ---- */
+
+/* Formula (1): all factors of the numerator are multiplied, then those of the denominator divided out. */
+static uint64_t gaussian_by_product(unsigned q, unsigned n, unsigned k)
+{
+    if (k > n)
+        return 0;
+    big number = {{1}};
+    for (unsigned i = 0; i < k; i++)
+        big_multiply(&number, second_powers[q][n - i] - 1);
+    for (unsigned i = 0; i < k; i++)
+        big_divide_exactly(&number, second_powers[q][k - i] - 1);
+    return big_to_table(&number);
+}
+
+static void fill_gaussian(unsigned q)
+{
+    for (unsigned n = 0; n <= MAX_LENGTH; n++)
+        for (unsigned k = 0; k <= MAX_LENGTH; k++)
+            second_gaussian[q][n][k] = gaussian_by_product(q, n, k);
+}
+
+/* ---- Partition counts ---- */
+
+enum { DEGREE_LIMIT = SIZE_LIMIT + MAX_LENGTH };
+
+/* Multiplies a polynomial in x by 1 - x^exponent. */
+static void polynomial_multiply(int64_t *coefficients, unsigned exponent)
+{
+    for (unsigned degree = DEGREE_LIMIT; degree >= exponent; degree--)
+        coefficients[degree] -= coefficients[degree - exponent];
+}
+
+/* Divides a polynomial in x by 1 - x^exponent. */
+static void polynomial_divide(int64_t *coefficients, unsigned exponent)
+{
+    for (unsigned degree = exponent; degree <= DEGREE_LIMIT; degree++)
+        coefficients[degree] += coefficients[degree - exponent];
+}
+
+/*
+ * The coefficients of the product of (1 - x^(eta+i)) / (1 - x^i), i = 1 to k, are p(k, eta, 0), p(k, eta, 1), ...
+ * After each factor the polynomial is the Gaussian coefficient of eta + i and i, so that every division is exact.
+ */
+static void fill_partitions(unsigned eta)
+{
+    int64_t coefficients[DEGREE_LIMIT + 1] = {1};
+    for (unsigned k = 0; k + eta <= MAX_LENGTH; k++) {
+        if (k > 0) {
+            polynomial_multiply(coefficients, eta + k);
+            polynomial_divide(coefficients, k);
+        }
+        for (unsigned m = 0; m <= k * eta; m++)
+            second_partitions[k][eta][m] = (uint32_t)coefficients[m];
+    }
+}
+
+static void fill_tail(unsigned q, unsigned k, unsigned eta)
+{
+    uint64_t more = 0;
+    for (unsigned above = k * eta + 1; above-- > 0;) {
+        second_tails[q][k][eta][above] = more;
+        more += second_partitions[k][eta][above] * second_powers[q][above];
+    }
+}
+
+static void fill_tails(unsigned q)
+{
+    for (unsigned k = 0; k <= MAX_LENGTH; k++)
+        for (unsigned eta = 0; k + eta <= MAX_LENGTH; eta++)
+            if (second_gaussian[q][k + eta][k] != 0)
+                fill_tail(q, k, eta);
+}
+
+/* ---- Calls ---- */
+
+void second_init(void)
+{
+    for (unsigned eta = 0; eta <= MAX_LENGTH; eta++)
+        fill_partitions(eta);
+    for (unsigned place = 0; place < FIELD_COUNT; place++) {
+        unsigned q = (unsigned)second_field_sizes[place];
+        fill_field(q);
+        fill_powers(q);
+        fill_gaussian(q);
+        fill_tails(q);
+    }
+}
+
+bool second_is_field(uint64_t q)
+{
+    return q == 2 || q == 3 || q == 5 || q == 7;
+}
+
+uint64_t second_table_entry(unsigned place)
+{
+    if (place >= TABLE_LENGTH)
+        return 0;
+    return second_gaussian[second_field_sizes[place / 289]][place / 17 % 17][place % 17];
+}
+
+uint32_t second_count(uint64_t q, uint64_t n, uint64_t k, uint64_t *count)
+{
+    *count = 0;
+    if (!second_is_field(q))
+        return REFUSED_FIELD;
+    if (n < 1 || n > MAX_LENGTH || k > n)
+        return REFUSED_SHAPE;
+    if (second_gaussian[q][n][k] == 0)
+        return REFUSED_COUNT;
+    *count = second_gaussian[q][n][k];
+    return ACCEPTED;
+}
+
+uint32_t second_setting(uint64_t q, uint64_t n, uint64_t k, uint64_t numbering, uint64_t *count)
+{
+    uint32_t refusal = second_count(q, n, k, count);
+    if (refusal != ACCEPTED)
+        return refusal;
+    if (numbering == EXTENDED || numbering == FERRERS)
+        return ACCEPTED;
+    *count = 0;
+    return REFUSED_NUMBERING;
+}

@@ -1,0 +1,295 @@
+/*
+ * Tests the second implementation against itself: the formulas against the sorted lists of all reduced matrices, the
+ * tables against counting, the elimination against spans written out in full, and the figures of document 001.
+ */
+#include "cases.h"
+#include "check.h"
+#include "second_parts.h"
+
+#include <stdlib.h>
+
+__extension__ typedef unsigned __int128 wide;
+
+enum { WHOLE_LIMIT = 5000, SPAN_LIMIT = 2500 };
+
+static setting settings[SETTING_LIMIT];
+static size_t setting_count;
+
+/* ---- Tables ---- */
+
+/* The field laws, on all entries. */
+static void field_group(uint64_t q)
+{
+    check_group_begin("field of %" PRIu64, q);
+    for (unsigned code = 0; code < q * q * q; code++) {
+        uint8_t a = (uint8_t)(code % q), b = (uint8_t)(code / q % q), c = (uint8_t)(code / q / q);
+        const second_field *field = &second_fields[q];
+        check(field->sum[a][b] == field->sum[b][a] && field->product[a][b] == field->product[b][a], "commutative");
+        check(field->sum[field->sum[a][b]][c] == field->sum[a][field->sum[b][c]], "sums");
+        check(field->product[field->product[a][b]][c] == field->product[a][field->product[b][c]], "products");
+        check(field->product[a][field->sum[b][c]] == field->sum[field->product[a][b]][field->product[a][c]], "both");
+        check(field->sum[a][0] == a && field->product[a][1] == a, "zero and one");
+        check(field->sum[field->difference[a][b]][b] == a, "differences");
+        check(a == 0 || field->product[a][field->inverse[a]] == 1, "inverses");
+    }
+    check_group_end();
+}
+
+/* p(k, eta, m) against the sizes of the diagrams of all sets of k pivot columns among k + eta. */
+static void partitions_group(void)
+{
+    check_group_begin("partition counts");
+    for (unsigned n = 1; n <= MAX_LENGTH; n++) {
+        static uint32_t counted[MAX_LENGTH + 1][SIZE_LIMIT + 1];
+        memset(counted, 0, sizeof counted);
+        for (uint32_t vector = 0; vector < UINT32_C(1) << n; vector++) {
+            unsigned k = 0, m = 0, others = 0;
+            for (unsigned j = 0; j < n; j++) {
+                k += vector >> j & 1;
+                others += 1 - (vector >> j & 1);
+                m += (vector >> j & 1) * others;
+            }
+            counted[k][m]++;
+        }
+        for (unsigned k = 0; k <= n; k++)
+            check(memcmp(counted[k], second_partitions[k][n - k], sizeof counted[k]) == 0, "n = %u, k = %u", n, k);
+    }
+    check_group_end();
+}
+
+/* Formula (1) against Theorem 2: the sum of p(k, n-k, m) q^m. */
+static void counts_group(unsigned field)
+{
+    const wide limit = (wide)1 << 100;
+    check_group_begin("counts, q = %" PRIu64, second_field_sizes[field]);
+    for (unsigned place = field * 289; place < (field + 1) * 289; place++) {
+        unsigned n = place / 17 % 17, k = place % 17;
+        wide count = 0, power = 1;
+        for (unsigned m = 0; k <= n && m <= k * (n - k); m++) {
+            count += second_partitions[k][n - k][m] * power;
+            power = power < limit ? power * second_field_sizes[field] : power;
+        }
+        uint64_t entry = count > UINT64_MAX ? 0 : (uint64_t)count;
+        check(second_table_entry(place) == entry, "n = %u, k = %u", n, k);
+    }
+    check_group_end();
+}
+
+static void count_figures_group(void)
+{
+    uint64_t count;
+    check_group_begin("count figures");
+    check(setting_count == 468, "%zu settings are accepted", setting_count);
+    check(second_count(2, 6, 3, &count) == ACCEPTED && count == 1395, "2,6,3");
+    check(second_count(3, 4, 2, &count) == ACCEPTED && count == 130, "3,4,2");
+    check(second_count(2, 16, 6, &count) == ACCEPTED, "2,16,6");
+    check(second_count(2, 16, 7, &count) == REFUSED_COUNT && count == 0, "2,16,7");
+    check(second_count(4, 0, 1, &count) == REFUSED_FIELD && count == 0, "4,0,1");
+    check(second_count(2, 17, 1, &count) == REFUSED_SHAPE && count == 0, "2,17,1");
+    check(second_table_entry(1156) == 0, "place 1156");
+    check_group_end();
+}
+
+/* ---- Formulas against sorted lists ---- */
+
+static void compare_listing(const setting *s, uint64_t numbering)
+{
+    size_t width = (size_t)(s->k * s->n);
+    uint8_t *matrices = malloc((size_t)s->count * width + 1), drawn[MAX_LENGTH * MAX_LENGTH];
+    size_t count = second_enumerate(s->q, s->n, s->k, matrices);
+    check(count == s->count, SETTING_FORMAT ": %zu matrices", SETTING_VALUES(s), count);
+    second_sort(s->q, s->n, s->k, numbering, matrices, count);
+    for (uint64_t index = 0; index < count; index++) {
+        const uint8_t *matrix = matrices + index * width;
+        uint64_t number, converted, back, other = EXTENDED + FERRERS - numbering;
+        memset(drawn, FILLING, sizeof drawn);
+        uint32_t refusals = second_number(s->q, s->n, s->k, numbering, matrix, width, &number) |
+                            second_draw(s->q, s->n, s->k, numbering, index, drawn, width) |
+                            second_convert(s->q, s->n, s->k, numbering, other, index, &converted) |
+                            second_convert(s->q, s->n, s->k, other, numbering, converted, &back);
+        check(refusals == ACCEPTED && number == index && back == index && memcmp(drawn, matrix, width) == 0,
+              SETTING_FORMAT ": index %" PRIu64, SETTING_VALUES(s), index);
+        check(index == 0 || second_compare(s->q, s->n, s->k, numbering, matrix - width, matrix) < 0,
+              SETTING_FORMAT ": order at %" PRIu64, SETTING_VALUES(s), index);
+    }
+    free(matrices);
+}
+
+static void whole_group(uint64_t q, uint64_t numbering)
+{
+    check_group_begin("whole settings, q = %" PRIu64 ", numbering %" PRIu64, q, numbering);
+    for (size_t number = 0; number < setting_count; number++)
+        if (settings[number].q == q && settings[number].count <= WHOLE_LIMIT)
+            compare_listing(&settings[number], numbering);
+    check_group_end();
+}
+
+/* Round trips and order at random indexes of all settings. */
+static void random_group(uint64_t numbering)
+{
+    uint8_t matrix[MAX_LENGTH * MAX_LENGTH], next[MAX_LENGTH * MAX_LENGTH];
+    check_group_begin("all settings, numbering %" PRIu64, numbering);
+    for (unsigned round = 0; round < 100000; round++) {
+        const setting *s = &settings[round % setting_count];
+        size_t width = (size_t)(s->k * s->n);
+        uint64_t index = random_index(s->count), number;
+        uint32_t refusals = second_draw(s->q, s->n, s->k, numbering, index, matrix, width) |
+                            second_number(s->q, s->n, s->k, numbering, matrix, width, &number);
+        check(refusals == ACCEPTED && number == index, SETTING_FORMAT ": %" PRIu64, SETTING_VALUES(s), index);
+        if (index + 1 == s->count)
+            continue;
+        second_draw(s->q, s->n, s->k, numbering, index + 1, next, width);
+        check(second_compare(s->q, s->n, s->k, numbering, matrix, next) < 0,
+              SETTING_FORMAT ": order at %" PRIu64, SETTING_VALUES(s), index);
+    }
+    check_group_end();
+}
+
+/* ---- Elimination against spans ---- */
+
+/* The rows of the span, each as a number in base q, marked one by one. */
+static void mark_span(uint64_t q, uint64_t n, uint64_t r, const uint8_t *rows, uint8_t *marks)
+{
+    static uint8_t known[SPAN_LIMIT][MAX_LENGTH];
+    size_t count = 1;
+    memset(known[0], 0, MAX_LENGTH);
+    memset(marks, 0, SPAN_LIMIT);
+    marks[0] = 1;
+    for (uint64_t row = 0; row < r; row++)
+        for (size_t place = 0; place < count; place++) {
+            uint8_t sum[MAX_LENGTH];
+            size_t code = 0;
+            memcpy(sum, known[place], MAX_LENGTH);
+            add_multiple(q, n, sum, rows + row * n, 1);
+            for (uint64_t column = 0; column < n; column++)
+                code = code * q + sum[column];
+            if (!marks[code])
+                memcpy(known[count++], sum, MAX_LENGTH);
+            marks[code] = 1;
+        }
+}
+
+static void span_group(uint64_t q, uint64_t n)
+{
+    static uint8_t before[SPAN_LIMIT], after[SPAN_LIMIT];
+    uint8_t rows[8 * MAX_LENGTH], reduced[MAX_LENGTH * MAX_LENGTH];
+    check_group_begin("spans, q = %" PRIu64 ", n = %" PRIu64, q, n);
+    for (unsigned round = 0; round < 300; round++) {
+        uint64_t r = random_below(8), dimension, index;
+        random_entries(round % 2 ? q : 2, rows, (size_t)(r * n));
+        uint32_t refusals = second_reduce(q, n, r, rows, (size_t)(r * n), reduced, (size_t)(n * n), &dimension);
+        refusals |= second_number(q, n, dimension, EXTENDED, reduced, (size_t)(dimension * n), &index);
+        mark_span(q, n, r, rows, before);
+        mark_span(q, n, dimension, reduced, after);
+        check(refusals == ACCEPTED && memcmp(before, after, sizeof before) == 0, "%" PRIu64 " rows", r);
+    }
+    check_group_end();
+}
+
+/* ---- Figures ---- */
+
+static void compare_figure(uint64_t q, uint64_t n, uint64_t k, const char *rows, uint64_t extended, uint64_t ferrers)
+{
+    uint8_t matrix[MAX_LENGTH * MAX_LENGTH], drawn[MAX_LENGTH * MAX_LENGTH];
+    size_t length = read_rows(rows, matrix);
+    uint64_t number;
+    check(second_number(q, n, k, EXTENDED, matrix, length, &number) == ACCEPTED && number == extended, "%s", rows);
+    check(second_number(q, n, k, FERRERS, matrix, length, &number) == ACCEPTED && number == ferrers, "%s", rows);
+    check(second_draw(q, n, k, EXTENDED, extended, drawn, length) == ACCEPTED, "%s", rows);
+    check(memcmp(drawn, matrix, length) == 0, "%s", rows);
+    check(second_draw(q, n, k, FERRERS, ferrers, drawn, length) == ACCEPTED, "%s", rows);
+    check(memcmp(drawn, matrix, length) == 0, "%s", rows);
+}
+
+/* Examples 1, 2, 4, 5 and 7, and document 01's table; Example 1's indexes are worked out with the numbering tests. */
+static void figures_group(void)
+{
+    uint8_t matrix[21], heights[MAX_LENGTH], entries[MAX_LENGTH * MAX_LENGTH];
+    check_group_begin("figures of documents 001 and 01");
+    read_rows("1000110/0010101/0001011", matrix);
+    check(second_identifying_vector(7, 3, matrix) == 0x58, "Example 2");
+    check(second_tableau(7, 3, matrix, heights, entries) == 10, "Example 1, size");
+    check(memcmp(heights, "\3\3\3\1", 4) == 0, "Example 1, diagram");
+    check(memcmp(entries, "\0\1\1\1\0\1\1\1\0\0", 10) == 0, "Example 1, tableau");
+    compare_figure(2, 7, 3, "1000110/0010101/0001011", 5062, 6620);
+    compare_figure(2, 6, 3, "011001/000100/000011", 928, 1323);
+    compare_figure(2, 6, 3, "000100/000010/000001", 1394, 1394);
+    compare_figure(2, 3, 1, "100", 0, 0);
+    compare_figure(2, 3, 1, "110", 1, 1);
+    compare_figure(2, 3, 1, "010", 2, 4);
+    compare_figure(2, 3, 1, "101", 3, 2);
+    compare_figure(2, 3, 1, "111", 4, 3);
+    compare_figure(2, 3, 1, "011", 5, 5);
+    compare_figure(2, 3, 1, "001", 6, 6);
+    compare_figure(2, 3, 0, "", 0, 0);
+    compare_figure(3, 2, 1, "12", 2, 2);
+    compare_figure(2, 3, 2, "101/011", 3, 3);
+    check_group_end();
+}
+
+/* Example 3: Y < X < Z. */
+static void order_figures_group(void)
+{
+    uint8_t x[18], y[18], z[18];
+    check_group_begin("document 001, Example 3");
+    read_rows("100010/010000/001100", x);
+    read_rows("100000/011000/000100", y);
+    read_rows("100000/010000/000010", z);
+    check(second_extended_compare(2, 6, 3, y, x) < 0 && second_extended_compare(2, 6, 3, x, y) > 0, "Y < X");
+    check(second_extended_compare(2, 6, 3, x, z) < 0 && second_extended_compare(2, 6, 3, z, x) > 0, "X < Z");
+    check(second_extended_compare(2, 6, 3, x, x) == 0 && second_ferrers_compare(2, 6, 3, x, x) == 0, "X = X");
+    check_group_end();
+}
+
+/* A few refusals, written out; the grids of the test programs have the rest. */
+static void refusals_group(void)
+{
+    uint8_t rows[4 * 65] = {1, 1, 0, 2}, out[4];
+    uint64_t index, dimension;
+    check_group_begin("refusals");
+    check(second_number(2, 2, 2, EXTENDED, rows, 4, &index) == REFUSED_ENTRY, "11/02");
+    check(second_number(3, 2, 2, EXTENDED, rows, 4, &index) == REFUSED_UNREDUCED, "11/02, q = 3");
+    check(second_number(2, 2, 2, 3, rows, 5, &index) == REFUSED_NUMBERING, "numbering 3");
+    check(second_draw(2, 2, 2, EXTENDED, 1, rows, 4) == REFUSED_INDEX && rows[3] == 2, "index N");
+    check(second_draw(2, 2, 2, EXTENDED, 1, rows, 3) == REFUSED_LENGTH, "length before index");
+    check(second_convert(2, 2, 1, 1, 0, 9, &index) == REFUSED_NUMBERING, "numbering before index");
+    check(second_reduce(2, 2, UINT64_MAX, rows, 0, out, 4, &dimension) == REFUSED_ROW_COUNT, "2^64 - 1 rows");
+    check(second_reduce(2, 2, 65, rows, 130, out, 3, &dimension) == REFUSED_ROW_COUNT, "13 before 4");
+    check(second_reduce(2, 2, 2, rows, 4, out, 3, &dimension) == REFUSED_LENGTH, "4 before 6");
+    check(second_receive(3, 2, 1, FERRERS, 2, rows, 4, &index, &dimension) == REFUSED_TOO_MANY, "too many");
+    check(index == 0 && dimension == 2, "dimension of too many");
+    check(second_receive(3, 2, 2, FERRERS, 1, rows, 2, &index, &dimension) == REFUSED_TOO_FEW, "too few");
+    check(index == 0 && dimension == 1, "dimension of too few");
+    check_group_end();
+}
+
+static void table_groups(void)
+{
+    for (unsigned place = 0; place < FIELD_COUNT; place++) {
+        field_group(second_field_sizes[place]);
+        counts_group(place);
+    }
+    partitions_group();
+    count_figures_group();
+}
+
+int main(void)
+{
+    second_init();
+    setting_count = accepted_settings(settings, UINT64_MAX);
+    table_groups();
+    for (unsigned place = 0; place < FIELD_COUNT; place++) {
+        whole_group(second_field_sizes[place], EXTENDED);
+        whole_group(second_field_sizes[place], FERRERS);
+    }
+    random_group(EXTENDED);
+    random_group(FERRERS);
+    span_group(2, 8);
+    span_group(3, 6);
+    span_group(5, 4);
+    span_group(7, 4);
+    figures_group();
+    order_figures_group();
+    refusals_group();
+    return check_summary("selftest");
+}
