@@ -29,7 +29,7 @@ fn draw_refusal(q: u64, n: u64, k: u64, t: u64, index: u64, size: usize) -> u32
 }
 
 // Writes the matrix with the given index; every test has been made.
-pub fn fill(matrix: &mut [u8], q: u64, n: u64, k: u64, t: u64, index: u64)
+pub(crate) fn fill(matrix: &mut [u8], q: u64, n: u64, k: u64, t: u64, index: u64)
     requires { ⌜ Chosen q n k t × (index < gaussian q n k) × (length (now matrix) ≡ k * n) ⌝ }
     ensures { λ _. ⌜ now (matrix .exit) ≡ drawn q n k t index ⌝ }
 {

@@ -7,4 +7,4 @@ pub mod number;
 pub mod receive;
 pub mod receiver;
 pub mod reduce;
-pub mod space;
+mod space;

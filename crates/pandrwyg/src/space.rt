@@ -8,7 +8,7 @@ use crate::answer::Space;
 use crate::choice::EXTENDED;
 
 // The answer for a span of d dimensions whose reduced matrix is given: its index where d is k, else too few or too many.
-pub fn space_answer(q: u64, n: u64, k: u64, t: u64, d: u64, matrix: &[u8]) -> Received
+pub(crate) fn space_answer(q: u64, n: u64, k: u64, t: u64, d: u64, matrix: &[u8]) -> Received
     requires { ⌜ Accepted q n k × Reduced q n d (now matrix) ⌝ }
     ensures { λ r. ⌜ r ≡ spaceAnswer q n k t d (now (matrix .entry)) ⌝ }
 {
