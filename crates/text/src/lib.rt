@@ -1,0 +1,1 @@
+// Text as bytes: decimal numerals, and a writer of pieces of text.
