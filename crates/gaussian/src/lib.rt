@@ -1,4 +1,5 @@
 // The number of spaces, and the settings that are accepted.
+mod lookup;
 mod table;
 
 ghost use mathlib.Core.Path.{_≡_};
@@ -15,14 +16,31 @@ pub enum Counted {
     Refused(u32),
 }
 
-// The Gaussian coefficient of n and k, from the table; 0 where it is above 2^64 - 1.
-pub fn coefficient(q: u64, n: u64, k: u64) -> u64
+// The table's entry for q, n and k: the Gaussian coefficient, 0 where it is above 2^64 - 1.
+pub fn table_entry(q: u64, n: u64, k: u64) -> u64
     requires { ⌜ T (isFieldSize q) × (n ≤ 16) × (k ≤ 16) ⌝ }
     ensures { λ r. ⌜ r ≡ tableEntry q n k ⌝ }
 {
     let part = field::place(q);
     let at = (part * 17 + n as usize) * 17 + k as usize;
     COUNTS[at]
+}
+
+// The same number without the table's copy on the stack.
+pub fn coefficient(q: u64, n: u64, k: u64) -> u64
+    requires { ⌜ T (isFieldSize q) × (n ≤ 16) × (k ≤ 16) ⌝ }
+    ensures { λ r. ⌜ r ≡ tableEntry q n k ⌝ }
+{
+    if k > n {
+        return 0;
+    }
+    let at = n * (n + 1) / 2 + k;
+    match q {
+        2 => lookup::of_two(at),
+        3 => lookup::of_three(at),
+        5 => lookup::of_five(at),
+        _ => lookup::of_seven(at),
+    }
 }
 
 // Document 01: "Row length n is 1 to 16."
@@ -59,7 +77,7 @@ pub fn count(q: u64, n: u64, k: u64) -> Counted
     if refusal != 0 {
         return Counted::Refused(refusal);
     }
-    Counted::Count(coefficient(q, n, k))
+    Counted::Count(table_entry(q, n, k))
 }
 
 // q^k [n, k], the number of reduced matrices of n + 1 columns whose last column has no pivot, without a power: by formula (4) it is

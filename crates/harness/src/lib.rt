@@ -47,7 +47,7 @@ pub extern "C" fn harness_table_entry(place: u64) -> u64 {
     if !field::is_size(q) {
         return 0;
     }
-    gaussian::coefficient(q, place / 17 % 17, place % 17)
+    gaussian::table_entry(q, place / 17 % 17, place % 17)
 }
 
 #[no_mangle]
