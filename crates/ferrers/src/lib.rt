@@ -213,6 +213,7 @@ fn draw(m: &mut [u8], q: u64, n: usize, k: usize, size: usize, place: u64, table
     requires { ⌜ Accepted q n k × (size ≤ k * (n - k)) × (place < boxCount n k size) × (length (now m) ≡ k * n) ⌝ }
     ensures { λ _. ⌜ now (m .exit) ≡ flatten k n (cell q (diagramShape q n k size place tableau) k n) ⌝ }
 {
+    matrix::clear(m);
     let mut dots = size;
     let mut earlier = place;
     let mut entries = tableau;
@@ -223,11 +224,11 @@ fn draw(m: &mut [u8], q: u64, n: usize, k: usize, size: usize, place: u64, table
         let free = free_boxes(c, rows, dots);
         if earlier < free {
             let base = power(q, dots - rows);
-            matrix::write_column(m, q, n, k, c, rows, entries / base);
+            matrix::write_digits(m, q, n, k, c, rows, entries / base);
             entries = entries % base;
             dots -= rows;
         } else {
-            matrix::write_column(m, q, n, k, c, rows, 1);
+            matrix::write_pivot(m, n, k, c, rows - 1);
             earlier -= free;
             rows -= 1;
         }

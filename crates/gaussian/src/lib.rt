@@ -7,6 +7,7 @@ ghost use Prim.Native.Nat.{suc, _*_, _^_, _≤_, _<_};
 ghost use lib.Dec.{T};
 ghost use Rattle.field.specs.Field.{isFieldSize};
 ghost use Rattle.gaussian.specs.Gaussian.{gaussian, greatestCount, tableEntry};
+ghost use Rattle.gaussian.specs.Laws.{withPivot};
 ghost use Rattle.gaussian.specs.Settings.{rowLengthOk, settingsRefusal, countOf};
 use table::COUNTS;
 
@@ -80,14 +81,21 @@ pub fn count(q: u64, n: u64, k: u64) -> Counted
     Counted::Count(table_entry(q, n, k))
 }
 
-// q^k [n, k], the number of reduced matrices of n + 1 columns whose last column has no pivot, without a power: by formula (4) it is
-// [n + 1, k] - [n, k - 1].
+// [n, k - 1], 0 at k = 0: the second term of formula (4), the number of reduced matrices of n + 1 columns whose last column has a pivot.
+pub fn pivot_count(q: u64, n: u64, k: u64) -> u64
+    requires { ⌜ T (isFieldSize q) × (n < 16) × (k ≤ 16) × (gaussian q (suc n) k ≤ greatestCount) ⌝ }
+    ensures { λ r. ⌜ r ≡ withPivot q n k ⌝ }
+{
+    if k == 0 {
+        return 0;
+    }
+    coefficient(q, n, k - 1)
+}
+
+// q^k [n, k], the first term: the number of those whose last column has no pivot.
 pub fn free_count(q: u64, n: u64, k: u64) -> u64
     requires { ⌜ T (isFieldSize q) × (n < 16) × (k ≤ 16) × (gaussian q (suc n) k ≤ greatestCount) ⌝ }
     ensures { λ r. ⌜ r ≡ q ^ k * gaussian q n k ⌝ }
 {
-    if k == 0 {
-        return 1;
-    }
-    coefficient(q, n + 1, k) - coefficient(q, n, k - 1)
+    coefficient(q, n + 1, k) - pivot_count(q, n, k)
 }

@@ -2,6 +2,8 @@
 --   entries-below   == every entry is below q exactly where the test holds
 --   Clauses n k m i p == document 01's four clauses for row i with its pivot in column p
 --   cell-alone      == the test at one row of a column
+--   pivotOf n k m i == the column of row i's pivot; n where there is no row i
+--   pivot-within    == of a row it is the pivot's
 --   row-zero, row-not-one, row-not-rising, row-rest == what is left of a row's test after each clause
 --   reduced-exactly == a matrix of the right length with its entries below q is Reduced exactly where isReduced holds
 -- Assumes nothing.
@@ -11,10 +13,11 @@ use mathlib.Core.List.{List}
 use mathlib.Core.Logic.{_↔_, _⊎_, ⊎-elim}
 use Prim.Native.Nat.{ℕ, suc, _*_, _<_, _≤_}
 use native.Mathlib.Omega.{arith}
-use borrow.Author.Tests.{lt-ltb, le-ltb, eq-eqb, ne-eqb, lt-leb, leb-false, eqb-false}
+use borrow.Author.Tests.{lt-ltb, le-ltb, eq-eqb, ne-eqb, le-leb, lt-leb, leb-false, eqb-false}
 use lib.Dec.{T, eqb, ltb, leb, ltb→lt, eqb→eq, leb→le}
 use lib.ListN.{length, getD}
-use Rattle.basics.specs.Choice.{holds, or-left, or-right}
+use Rattle.basics.specs.Choice.{pick, holds, or-left, or-right}
+use Rattle.basics.specs.Order.{le-or-lt}
 use Rattle.basics.specs.All.{allBelow-at, allBelow-true}
 use Rattle.basics.specs.Test.{and-left, and-right}
 use Rattle.matrix.specs.Matrix.{entry, pivot, Reduced, entriesBelow, columnAlone, rowReduced, isReduced}
@@ -81,6 +84,12 @@ pub cell-alone : (n : ℕ) (m : List ℕ) (i j a : ℕ) → (a ≡ i) ⊎ (entry
 cell-alone n m i j a c =
     ⊎-elim (λ e. or-left (eqb a i) _ (eq-eqb a i e)) (λ e. or-right (eqb a i) _ (eq-eqb (entry n m a j) 0 e)) c
 
+abbrev pub pivotOf : ℕ → ℕ → List ℕ → ℕ → ℕ
+pivotOf n k m i = pick (leb k i) n (pivot n m i)
+
+pub pivot-within : (n k : ℕ) (m : List ℕ) (i : ℕ) → i < k → pivotOf n k m i ≡ pivot n m i
+pivot-within n k m i h = rw (lt-leb k i h)
+
 -- the test of a row, clause by clause, as the code makes it
 module _ (n k : ℕ) (m : List ℕ) (i p : ℕ) where
   pub row-zero : n ≤ p → rowReduced n k m i p ≡ false
@@ -91,14 +100,21 @@ module _ (n k : ℕ) (m : List ℕ) (i p : ℕ) where
   unfolding rowReduced
   row-not-one h ne = rw (lt-ltb p n h, ne-eqb (entry n m i p) 1 ne)
 
-  pub row-not-rising : p < n → entry n m i p ≡ 1 → suc i < k → pivot n m (suc i) ≤ p → rowReduced n k m i p ≡ false
+  pub row-not-rising : p < n → entry n m i p ≡ 1 → pivotOf n k m (suc i) ≤ p → rowReduced n k m i p ≡ false
   unfolding rowReduced
-  row-not-rising h e l g = rw (lt-ltb p n h, eq-eqb (entry n m i p) 1 e, lt-leb k (suc i) l, le-ltb p (pivot n m (suc i)) g)
+  row-not-rising h e g = ⊎-elim last before (le-or-lt k (suc i))
+    where
+      last : k ≤ suc i → rowReduced n k m i p ≡ false
+      last l = let z : n ≤ p = rw (le-leb k (suc i) l) at g in absurd (omega arith)
 
-  pub row-rest : p < n → entry n m i p ≡ 1 → (suc i < k → p < pivot n m (suc i)) → rowReduced n k m i p ≡ columnAlone n k m i p
+      before : suc i < k → rowReduced n k m i p ≡ false
+      before l =
+          rw (lt-ltb p n h, eq-eqb (entry n m i p) 1 e, lt-leb k (suc i) l, le-ltb p (pivot n m (suc i)) (rw (lt-leb k (suc i) l) at g))
+
+  pub row-rest : p < n → entry n m i p ≡ 1 → p < pivotOf n k m (suc i) → rowReduced n k m i p ≡ columnAlone n k m i p
   unfolding rowReduced
-  row-rest h e l =
-      rw (lt-ltb p n h, eq-eqb (entry n m i p) 1 e, or-true (leb k (suc i)) (ltb p (pivot n m (suc i))) (λ f. lt-ltb p (pivot n m (suc i)) (l (leb-false k (suc i) f))))
+  row-rest h e g =
+      rw (lt-ltb p n h, eq-eqb (entry n m i p) 1 e, or-true (leb k (suc i)) (ltb p (pivot n m (suc i))) (λ f. lt-ltb p (pivot n m (suc i)) (rw (lt-leb k (suc i) (leb-false k (suc i) f)) at g)))
 
 module _ (q n k : ℕ) (m : List ℕ) (sized : length m ≡ k * n) (below : T (entriesBelow q m)) where
   clauses-at : T (isReduced n k m) → (i : ℕ) → i < k → Clauses n k m i (pivot n m i)
