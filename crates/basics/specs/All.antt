@@ -1,7 +1,6 @@
 -- A test at every place below a bound, and at every element of a list.
 --   allBelow k f    == the test that f holds at 0, 1, .. , k - 1
 --   allBelow-start, -more, -end == the test, one place after the other, as a loop makes it
---   allBelow-next   == the test is the same after a place where f holds
 --   allBelow-true   == it holds where f holds at each; allBelow-false == it fails where f fails at one; allBelow-at == and back
 -- Assumes nothing.
 use mathlib.Core.Path.{_≡_, refl, ap, ap₂, _∙_, subst, sym}
@@ -42,14 +41,6 @@ allBelow-start f = refl
 pub allBelow-more : (i : ℕ) (f : ℕ → Bool) → allBelow i f ≡ true → f i ≡ true → allBelow (suc i) f ≡ true
 unfolding allBelow
 allBelow-more i f h e = ap₂ _&&_ h e
-
-and-yes : (b : Bool) → b ≡ b && true
-and-yes true = refl
-and-yes false = refl
-
-pub allBelow-next : (i : ℕ) (f : ℕ → Bool) (before : Bool) → before ≡ allBelow i f → f i ≡ true → before ≡ allBelow (suc i) f
-unfolding allBelow
-allBelow-next i f before h e = and-yes before ∙ ap₂ _&&_ h (sym e)
 
 pub allBelow-end : (i k : ℕ) (f : ℕ → Bool) → allBelow i f ≡ true → i ≡ k → allBelow k f ≡ true
 allBelow-end i k f h e = ap (λ j. allBelow j f) (sym e) ∙ h

@@ -24,23 +24,22 @@ pub fn lead(m: &[u8], start: usize, n: usize) -> usize
     n
 }
 
-// Whether every byte is below q. The loop has no way out, so that the compiler tests many bytes in one step.
+// Whether every byte is below q: whether the greatest is. The loop has no way out, so that the compiler compares many bytes in one step.
 pub fn entries_below(m: &[u8], q: u64) -> bool
     ensures { λ r. ⌜ r ≡ entriesBelow q (now (m .entry)) ⌝ }
 {
-    let mut limit: u16 = 256;
-    if q < 256 {
-        limit = q as u16;
+    if q == 0 {
+        return m.len() == 0;
     }
-    let mut below = true;
+    let mut greatest: u8 = 0;
     let mut i = 0;
     while i < m.len() {
-        if limit <= m[i] as u16 {
-            below = false;
+        if greatest < m[i] {
+            greatest = m[i];
         }
         i += 1;
     }
-    below
+    (greatest as u64) < q
 }
 
 // Whether column j is zero but for row i.

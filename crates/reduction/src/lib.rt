@@ -78,14 +78,24 @@ fn scale(q: u64, n: usize, c: u8, v: &mut [u8])
     }
 }
 
-// Scales v so that its entry at p, its lead, is 1.
-fn monic(q: u64, n: usize, p: usize, v: &mut [u8])
+// Divides v by its entry at p, its lead.
+fn divide(q: u64, n: usize, p: usize, v: &mut [u8])
     requires { ⌜ T (isFieldSize q) × (length (now v) ≡ n) × (p ≡ leadOf n (now v)) × (p < n) ⌝ }
     ensures { λ _. ⌜ now (v .exit) ≡ monicOf q n (now (v .entry)) ⌝ }
 {
     let pivot = v[p];
     let c = field::invert(q, pivot);
     scale(q, n, c, v);
+}
+
+// Scales v so that its entry at p, its lead, is 1. Where it is 1, nothing is left to do.
+fn monic(q: u64, n: usize, p: usize, v: &mut [u8])
+    requires { ⌜ T (isFieldSize q) × Row q n (now v) × (p ≡ leadOf n (now v)) × (p < n) ⌝ }
+    ensures { λ _. ⌜ now (v .exit) ≡ monicOf q n (now (v .entry)) ⌝ }
+{
+    if v[p] != 1 {
+        divide(q, n, p, v);
+    }
 }
 
 // Clears w's lead in the rows whose lead lies before it, and says how many they are.

@@ -1,82 +1,64 @@
--- `matrix::entries_below` meets its contract: `below` is the test of the places passed.
-use mathlib.Core.Path.{_≡_, refl, sym, _∙_, ap}
-use mathlib.Core.Logic.{⊎-elim}
-use Prim.Native.Nat.{ℕ, _+_, _-_, _≤_, _<_}
-use native.Mathlib.Nat.{le-refl}
+-- `matrix::entries_below` meets its contract: the entries passed are below q exactly where the greatest of them is.
+use mathlib.Core.Path.{_≡_, sym, _∙_, ap}
+use mathlib.Core.Logic.{⊎-elim, inl, inr}
+use Prim.Native.Nat.{_+_, _-_, _≤_, _<_}
 use native.Mathlib.Numerals.{add-one}
 use native.Mathlib.Omega.{arith}
-use borrow.Author.Tests.{lt-ltb, le-ltb}
 use lib.Dec.{ltb}
 use lib.ListN.{length, getD}
-use Rattle.basics.specs.All.{allBelow, allBelow-start, allBelow-next, allBelow-false}
+use Rattle.basics.specs.All.{allBelow}
 use Rattle.matrix.specs.Matrix.{entriesBelow}
+use Rattle.matrix.specs.Decided.{belowTo, below-start, below-more, below-none}
 use Rattle.matrix.proofs.entries_below.Statement.{statement}
 use Rattle.matrix.proofs.entries_below.Tie as tie
 
--- of a byte the limit's test is that of q
-abbrev SameTest : ℕ → ℕ → Type 0
-SameTest limit q = (x : ℕ) → x < 256 → ltb x limit ≡ ltb x q
-
 abbrev Inv-loop : tie.InvT-loop
-Inv-loop m q limit below₀ i₀ below i = (i ≤ length m) × (below ≡ allBelow i (λ p. ltb (getD m p 0) q)) × SameTest limit q
+Inv-loop m q greatest₀ i₀ greatest i = (i ≤ length m) × (greatest < 256) × (belowTo q m i ≡ ltb greatest q)
 
 abbrev μ-loop : tie.MeasureT-loop
-μ-loop m q limit below₀ i₀ below i = length m - i
+μ-loop m q greatest₀ i₀ greatest i = length m - i
 
--- src/lib.rt:33:17
-cast-limit : tie.Need-cast-limit Inv-loop μ-loop
-cast-limit c = omega arith
-
--- src/lib.rt:37:5
--- the limit is q, or 256 where q is more than that
-limit-fits : (c : tie.Joined1 Inv-loop μ-loop) → SameTest (c .if1 .limit) (c .before .args .q)
-limit-fits c x small =
-    ⊎-elim (λ w. ap (ltb x) (w .1)) (λ w. ap (ltb x) (w .1) ∙ lt-ltb x 256 small ∙ sym (lt-ltb x (c .before .args .q) (omega (arith, w .0 .left))))
-    (c .if1 .came)
+returns : tie.Need-returns Inv-loop μ-loop
+returns c = let a = c .before .args in sym (ap (λ x. entriesBelow x (a .m .now)) (c .if1 .taken) ∙ below-none (a .m .now))
 
 loop-holds : tie.Need-loop-holds Inv-loop μ-loop
-loop-holds c = (omega arith, sym (allBelow-start _), limit-fits c)
+loop-holds c = (omega arith, omega arith, below-start (c .before .args .q) (c .before .args .m .now) (omega (arith, c .if1 .left)))
 
--- src/lib.rt:38:21
 shared-slice-read-if2 : tie.Need-shared-slice-read-if2 Inv-loop μ-loop
 shared-slice-read-if2 c = omega arith
 
--- src/lib.rt:38:21
-cast-if2 : tie.Need-cast-if2 Inv-loop μ-loop
-cast-if2 c = omega (arith, c .shared-slice-known .given (c .before .before .loop .i))
+shared-slice-read-greatest : tie.Need-shared-slice-read-greatest Inv-loop μ-loop
+shared-slice-read-greatest c = omega arith
 
--- src/lib.rt:41:9
 add-i : tie.Need-add-i Inv-loop μ-loop
 add-i c = omega arith
 
--- src/lib.rt:37:5
 loop-less : tie.Need-loop-less Inv-loop μ-loop
 loop-less c = omega arith
 
--- src/lib.rt:37:5
--- the test of one place more
-tested : (c : tie.Joined2 Inv-loop μ-loop) →
-    let l = c .before .before .before in let a = l .before .before .args in
-    c .if2 .below ≡ allBelow (l .loop .i + 1) (λ p. ltb (getD (a .m .now) p 0) (a .q))
-tested c =
+loop-again : tie.Need-loop-again Inv-loop μ-loop
+loop-again c =
     let l = c .before .before .before in
     let a = l .before .before .args in
-    let byte : getD (a .m .now) (l .loop .i) 0 < 256 = omega (arith, c .before .shared-slice-known .given (l .loop .i)) in
-    let same = l .loop .inv .2 (getD (a .m .now) (l .loop .i) 0) byte in
-    rw add-one
-    (⊎-elim (λ w. w .1 ∙ sym (allBelow-false _ _ (l .loop .i) (le-refl _) (sym same ∙ le-ltb _ _ (w .0 .taken))))
-    (λ w. w .1 ∙ allBelow-next _ _ _ (l .loop .inv .1) (sym same ∙ lt-ltb _ _ (w .0 .left)))
-    (c .if2 .came))
+    let before = l .loop .inv .2 in
+    let byte : getD (a .m .now) (l .loop .i) 0 < 256 = omega (arith, c .before .shared-slice-known .given (l .loop .i)) in (
+      omega arith,
+      ⊎-elim (λ w. omega (arith, w .2, byte)) (λ w. omega (arith, w .1, l .loop .inv .1)) (c .if2 .came),
+      rw add-one
+          (⊎-elim
+          (λ w. below-more (a .q) (a .m .now) (l .loop .i) (l .loop .greatest) (c .if2 .greatest) before (omega (arith, w .2, w .0 .taken)) (omega (arith, w .2)) (inr (w .2)))
+          (λ w. below-more (a .q) (a .m .now) (l .loop .i) (l .loop .greatest) (c .if2 .greatest) before (omega (arith, w .1)) (omega (arith, w .1, w .0 .left)) (inl (w .1)))
+          (c .if2 .came)),
+    )
 
-loop-again : tie.Need-loop-again Inv-loop μ-loop
-loop-again c = (omega arith, tested c, c .before .before .before .loop .inv .2)
+cast-result : tie.Need-cast-result Inv-loop μ-loop
+cast-result c = omega (arith, c .before .loop .inv .1)
 
--- src/lib.rt:28:1
-returns : tie.Need-returns Inv-loop μ-loop
+returns-2 : tie.Need-returns-2 Inv-loop μ-loop
 unfolding entriesBelow
-returns c =
+returns-2 c =
     let a = c .before .before .before .args in
-    c .before .loop .inv .1 ∙ ap (λ j. allBelow j (λ p. ltb (getD (a .m .now) p 0) (a .q))) (omega arith)
+    sym (c .before .loop .inv .2) ∙ ap (belowTo (a .q) (a .m .now)) (omega arith)
 
 pub entries-below-spec : {M : Type 1} → statement M
 entries-below-spec =
@@ -84,11 +66,12 @@ entries-below-spec =
     (tie.spec
     Inv-loop
     μ-loop
-    cast-limit
+    returns
     loop-holds
     shared-slice-read-if2
-    cast-if2
+    shared-slice-read-greatest
     add-i
     loop-less
     loop-again
-    returns)
+    cast-result
+    returns-2)

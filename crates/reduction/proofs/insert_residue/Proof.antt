@@ -89,7 +89,7 @@ monic-requires c κs =
     let below : p .lead .result < b .args .n =
     omega (arith, here, leadOf-le (b .args .q) (laws (b .args .q) (b .pre .0)) (b .args .n) w, c .before .if1 .left)
     in
-    (b .pre .0, left-row r .0, here, below)
+    (b .pre .0, left-row r, here, below)
 
 place-requires : tie.Need-place-requires
 place-requires c κs =
