@@ -1,4 +1,6 @@
 // Flat shims for the C tests, over numbers and byte slices, for what only Rattle callers reach. No part of the product.
+pub mod receiver;
+
 use gaussian::Counted;
 use pandrwyg::answer::Numbered;
 use pandrwyg::answer::Reduction;
