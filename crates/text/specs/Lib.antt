@@ -2,3 +2,4 @@
 pub mod Text
 pub mod Appending
 pub mod AppendingLaws
+pub mod TextLaws
