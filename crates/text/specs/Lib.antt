@@ -3,3 +3,5 @@ pub mod Text
 pub mod Appending
 pub mod AppendingLaws
 pub mod TextLaws
+pub mod Rows
+pub mod RowsLaws

@@ -34,9 +34,9 @@ room-within (suc a) zero x h g = digit-within (suc a) x (omega arith) ∙ sym (d
 room-within (suc a) (suc b) x h g =
     ⊎-elim
     (λ l.
-      step-within a x l
-      ∙ ap (λ ds. ds ++ (glyph (x % 10) ∷ [])) (room-within a b (x / 10) (omega arith) (omega arith))
-      ∙ sym (step-within b x l))
+    step-within a x l
+    ∙ ap (λ ds. ds ++ (glyph (x % 10) ∷ [])) (room-within a b (x / 10) (omega arith) (omega arith))
+    ∙ sym (step-within b x l))
     (λ l. digit-within (suc a) x l ∙ sym (digit-within (suc b) x l)) (le-or-lt 10 x)
 
 pub numeral-digit : (x : ℕ) → x < 10 → numeral x ≡ glyph x ∷ []

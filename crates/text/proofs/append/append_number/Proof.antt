@@ -38,7 +38,7 @@ returns c =
     let n = k .numeral-of in
     let l : length (n .result .digits) ≡ 20 = search needs in
     let e : take (20 - n .result .start) (drop (n .result .start) (n .result .digits)) ≡ numeral (a .x) =
-      take-all (20 - n .result .start) (drop (n .result .start) (n .result .digits)) (simp length-drop (omega arith)) ∙ n .ensures .1 in (
+    take-all (20 - n .result .start) (drop (n .result .start) (n .result .digits)) (simp length-drop (omega arith)) ∙ n .ensures .1 in (
       s .append .ensures .0 ∙ ap (placeAfter (length (a .buffer .now)) (a .at)) e,
       s .append .ensures .1 ∙ ap (fits (length (a .buffer .now)) (a .at)) e,
       s .append .ensures .2 ∙ ap (bufferAfter (a .buffer .now) (a .at)) e,

@@ -43,8 +43,8 @@ loop-again c =
       simp length-set (l .inv .2),
       below-before (l .rest) (l .start) (l .inv .0) (l .inv .3),
       digit-put (l .digits) (numeral (l .rest / 10)) (l .start) (glyph (l .rest % 10)) (l .inv .0) (omega arith)
-      ∙ ap (λ ds. ds ++ drop (l .start) (l .digits)) (sym (numeral-step (l .rest) (c .loop-test .taken)))
-      ∙ l .inv .4,
+          ∙ ap (λ ds. ds ++ drop (l .start) (l .digits)) (sym (numeral-step (l .rest) (c .loop-test .taken)))
+          ∙ l .inv .4,
     )
 
 sub-start-2 : tie.Need-sub-start-2 Inv-loop μ-loop
@@ -64,8 +64,8 @@ returns c =
     let l = c .before .loop in (
       omega arith,
       digit-put (l .digits) [] (l .start) (glyph (l .rest)) (l .inv .0) (omega arith)
-      ∙ ap (λ ds. ds ++ drop (l .start) (l .digits)) (sym (numeral-digit (l .rest) (c .loop-test .left)))
-      ∙ l .inv .4,
+          ∙ ap (λ ds. ds ++ drop (l .start) (l .digits)) (sym (numeral-digit (l .rest) (c .loop-test .left)))
+          ∙ l .inv .4,
     )
 
 pub numeral-of-spec : {M : Type 1} → statement M
