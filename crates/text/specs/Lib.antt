@@ -5,3 +5,4 @@ pub mod AppendingLaws
 pub mod TextLaws
 pub mod Rows
 pub mod RowsLaws
+pub mod Writing
