@@ -5,4 +5,5 @@ pub mod AppendingLaws
 pub mod TextLaws
 pub mod Rows
 pub mod RowsLaws
+pub mod Shown
 pub mod Writing

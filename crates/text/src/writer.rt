@@ -39,12 +39,3 @@ pub fn byte<'s, 'a>(w: &'s mut Writer<'a>, b: u8) -> bool
     w.at = put.at;
     put.fits
 }
-
-// Puts two numbers in.
-pub fn write_two(buffer: &mut [u8], x: u64, y: u64) -> usize {
-    let mut w = new(buffer);
-    number(&mut w, x);
-    byte(&mut w, 44);
-    number(&mut w, y);
-    w.at
-}
