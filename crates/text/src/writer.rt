@@ -5,8 +5,12 @@ ghost use mathlib.Core.List.{[], _∷_};
 ghost use lib.ListN.{length};
 ghost use Rattle.text.specs.Text.{numeral};
 ghost use Rattle.text.specs.Appending.{fits};
-ghost use Rattle.text.specs.Rows.{DigitRows, rowsText};
+ghost use Rattle.text.specs.Shown.{shown};
 ghost use Rattle.text.specs.Writing.{appended};
+
+use crate::append;
+use crate::rows;
+use crate::rows::Rows;
 
 pub struct Writer<'a> {
     pub buffer: &'a mut [u8],
@@ -25,7 +29,7 @@ pub fn number<'s, 'a>(w: &'s mut Writer<'a>, x: u64) -> bool
     ensures { λ r. ⌜ (r ≡ fits (length (now (now (w .entry) .buffer))) (now (w .entry) .at) (numeral x)) × (now (w .exit) ≡ appended (now (w .entry)) (numeral x)) ⌝ }
 {
     let at = w.at;
-    let put = crate::append::append_number(&mut *w.buffer, at, x);
+    let put = append::append_number(&mut *w.buffer, at, x);
     w.at = put.at;
     put.fits
 }
@@ -35,7 +39,17 @@ pub fn byte<'s, 'a>(w: &'s mut Writer<'a>, b: u8) -> bool
     ensures { λ r. ⌜ (r ≡ fits (length (now (now (w .entry) .buffer))) (now (w .entry) .at) (b ∷ [])) × (now (w .exit) ≡ appended (now (w .entry)) (b ∷ [])) ⌝ }
 {
     let at = w.at;
-    let put = crate::append::append_byte(&mut *w.buffer, at, b);
+    let put = append::append_byte(&mut *w.buffer, at, b);
+    w.at = put.at;
+    put.fits
+}
+
+// Puts the text of rows in.
+pub fn rows<'s, 'a>(w: &'s mut Writer<'a>, r: Rows) -> bool
+    ensures { λ b. ⌜ (b ≡ fits (length (now (now (w .entry) .buffer))) (now (w .entry) .at) (shown r)) × (now (w .exit) ≡ appended (now (w .entry)) (shown r)) ⌝ }
+{
+    let at = w.at;
+    let put = rows::append_rows(&mut *w.buffer, at, r);
     w.at = put.at;
     put.fits
 }
