@@ -7,3 +7,4 @@ pub mod Rows
 pub mod RowsLaws
 pub mod Shown
 pub mod Writing
+pub mod Line

@@ -2,3 +2,4 @@
 pub mod append;
 mod rows;
 pub mod writer;
+mod line;

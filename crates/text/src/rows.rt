@@ -27,7 +27,7 @@ fn rows_byte(matrix: &[u8], n: usize, k: usize, place: usize) -> u8
     let row = place / (n + 1);
     let column = place % (n + 1);
     if column == n {
-        return b'/';
+        return append::SLASH;
     }
     48 + matrix[row * n + column]
 }
