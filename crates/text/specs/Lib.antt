@@ -8,3 +8,4 @@ pub mod RowsLaws
 pub mod Shown
 pub mod Writing
 pub mod Line
+pub mod LineLaws
