@@ -2,19 +2,22 @@
 --   joined pieces     == the pieces, one after the other
 --   bufferWith-length == the buffer stays as long as it is
 --   with-room         == pieces that have room together stand one after the other
---   lineText-joined   == a line is its pieces, one after the other
---   lineText-length   == the bytes of a line: those of its two numbers and its rows, two commas and a line feed
+--   line-room         == so do those of a line that has room
+--   lineText-length, lineText-bound == how many bytes a line has: those of its two numbers and its rows, two commas and a line feed
 -- Assumes nothing.
 use mathlib.Core.Path.{_≡_, refl, ap, ap₂, _∙_, sym}
 use mathlib.Core.List.{List, [], _∷_, _++_, append-assoc}
-use Prim.Native.Nat.{ℕ, _+_, _≤_}
-use native.Mathlib.Nat.{add-zero, add-assoc, le-refl}
+use Prim.Native.Nat.{ℕ, _+_, _<_, _≤_}
+use native.Mathlib.Nat.{add-zero, zero-add, add-assoc, le-refl}
 use native.Mathlib.Omega.{arith}
 use lib.ListN.{length, take, drop, length-append}
 use lib.Seq.{paste, paste-zero, take-paste, drop-paste, drop-drop, take-length}
 use Rattle.text.specs.Text.{comma, lineFeed, numeral}
 use Rattle.text.specs.Appending.{placeAfter, bufferAfter}
 use Rattle.text.specs.AppendingLaws.{fitted, room-fits, bufferAfter-length}
+use Rattle.text.specs.TextLaws.{numeral-length}
+use Rattle.text.specs.Rows.{rowsText}
+use Rattle.text.specs.RowsLaws.{rowsText-length, size-bound}
 use Rattle.text.specs.Line.{linePieces, lineText, placeWith, bufferWith}
 
 abbrev pub joined : List (List ℕ) → List ℕ
@@ -50,12 +53,29 @@ with-room b at (p ∷ pieces) h =
       more .1 ∙ ap₂ (λ x y. paste x y c (length c)) (sym (f .2)) (sym (f .0)) ∙ paste-paste b at p c (omega arith),
     )
 
-pub lineText-joined : (first second : ℕ) (rows : List ℕ) → joined (linePieces first second rows) ≡ lineText first second rows
+pub line-room : (b : List ℕ) (first second : ℕ) (rows : List ℕ) → length (lineText first second rows) ≤ length b
+    → (placeWith b 0 (linePieces first second rows) ≡ length (lineText first second rows))
+    × (bufferWith b 0 (linePieces first second rows) ≡ paste b 0 (lineText first second rows) (length (lineText first second rows)))
 unfolding lineText
-lineText-joined first second rows = refl
+line-room b first second rows h =
+    let e = with-room b 0 (linePieces first second rows) (omega arith) in
+    (e .0 ∙ zero-add (length (lineText first second rows)), e .1)
 
 pub lineText-length : (first second : ℕ) (rows : List ℕ) → length (lineText first second rows) ≡ length (numeral first) + length (numeral second) + length rows + 3
 unfolding lineText
 lineText-length first second rows =
     length-append (numeral first) (comma ∷ (numeral second ++ (comma ∷ (rows ++ (lineFeed ∷ [])))))
     ∙ omega (arith, length-append (numeral second) (comma ∷ (rows ++ (lineFeed ∷ []))), length-append rows (lineFeed ∷ []))
+
+-- two numbers of at most five digits, and at most 16 rows of 16 digits
+pub lineText-bound : (first second n k : ℕ) (m : List ℕ) → first < 100000 → second < 100000 → n ≤ 16 → k ≤ 16
+    → length (lineText first second (rowsText n k m)) ≤ 284
+lineText-bound first second n k m f s hn hk =
+    omega (
+      arith,
+      lineText-length first second (rowsText n k m),
+      numeral-length 4 first f,
+      numeral-length 4 second s,
+      rowsText-length n m k,
+      size-bound n k hn hk,
+    )

@@ -39,7 +39,7 @@ pub struct Rows {
 }
 
 // The rows of a matrix as text. Internal: the caller has tested the matrix.
-fn rows_text(matrix: &[u8], n: usize, k: usize) -> Rows
+pub(crate) fn rows_text(matrix: &[u8], n: usize, k: usize) -> Rows
     requires { ⌜ DigitRows n k (now matrix) ⌝ }
     ensures { λ r. ⌜ shown r ≡ rowsText n k (now (matrix .entry)) ⌝ }
 {
