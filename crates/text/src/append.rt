@@ -9,6 +9,9 @@ ghost use lib.Seq.{paste};
 ghost use Rattle.text.specs.Text.{numeral};
 ghost use Rattle.text.specs.Appending.{fits, placeAfter, bufferAfter};
 
+// The bytes of the digit 0, the comma, the slash and the line feed.
+pub const ZERO: u8 = 48;
+
 pub const COMMA: u8 = 44;
 
 pub const SLASH: u8 = 47;
@@ -74,11 +77,11 @@ fn numeral_of(x: u64) -> Numeral
     let mut rest = x;
     while rest >= 10 {
         start -= 1;
-        digits[start] = 48 + (rest % 10) as u8;
+        digits[start] = ZERO + (rest % 10) as u8;
         rest /= 10;
     }
     start -= 1;
-    digits[start] = 48 + rest as u8;
+    digits[start] = ZERO + rest as u8;
     Numeral { digits, start }
 }
 
