@@ -3,3 +3,5 @@ pub mod Decimal
 pub mod SettingsLine
 pub mod NumeralLaws
 pub mod Reading
+pub mod DecimalLaws
+pub mod ParseLaws
