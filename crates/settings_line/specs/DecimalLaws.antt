@@ -57,7 +57,7 @@ module _ (most : ℕ) (s : List ℕ) where
       or-true true = refl
       or-true false = refl
 
-read-number : (b : Bool) (at : ℕ) (s : List ℕ) (x : Numeral) → readIf b at s ≡ Number x
+pub read-number : (b : Bool) (at : ℕ) (s : List ℕ) (x : Numeral) → readIf b at s ≡ Number x
     → (b ≡ true) × (x ≡ record { value = reading 0 s; end = at + length s })
 read-number true at s x e = (refl, cc)
 read-number false at s x e = let z : _≡_ {A = ℕ} 0 1 = cc in absurd (omega arith)

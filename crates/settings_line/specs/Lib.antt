@@ -5,3 +5,5 @@ pub mod NumeralLaws
 pub mod Reading
 pub mod DecimalLaws
 pub mod ParseLaws
+pub mod Field
+pub mod Exactly
