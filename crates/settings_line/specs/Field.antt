@@ -113,9 +113,10 @@ decimal-is text at most x e =
     let f = numerals most s (both (leb (reading 0 s) greatest) (isNumeral most s) (r .0) .1) in
     let value : x .value ≡ reading 0 s = ap (λ y. y .value) (r .1) in
     let end : x .end ≡ at + length s = ap (λ y. y .end) (r .1) in
-    let digits = numeral-reading s (run-digits (drop at text)) (f .nonempty) (f .first) in
-    (run-split (drop at text) ∙ ap₂ _++_ (sym digits ∙ ap numeral (sym value)) (drop-drop (length s) at text ∙ ap (λ i. drop i text) (sym end)),
-      rw value (lt-of-lt-of-le (reading-below (run-digits (drop at text))) (pow-le-pow-right (omega arith) (f .short))))
+    let digits = numeral-reading s (run-digits (drop at text)) (f .nonempty) (f .first) in (
+      run-split (drop at text) ∙ ap₂ _++_ (sym digits ∙ ap numeral (sym value)) (drop-drop (length s) at text ∙ ap (λ i. drop i text) (sym end)),
+      rw value (lt-of-lt-of-le (reading-below (run-digits (drop at text))) (pow-le-pow-right (omega arith) (f .short))),
+    )
 
 record Behind (text : List ℕ) (mark : ℕ) (d : Decimal) (x : Numeral) : Type 0 where
   number : Numeral
@@ -149,10 +150,11 @@ field-is text at most mark x e =
     let y = b .number in
     let d = decimal-is text at most y (b .read) in
     let value : y .value ≡ x .value = sym (ap (λ z. z .value) (b .same)) in
-    let end : suc (y .end) ≡ x .end = sym (add-one (y .end)) ∙ sym (ap (λ z. z .end) (b .same)) in
-    (d .0
-      ∙ ap₂ (λ v t. numeral v ++ t) value (drop-cons text (y .end) 0 (b .inside) ∙ ap₂ (λ c i. c ∷ drop i text) (b .follows) end),
-      rw (sym value) (d .1))
+    let end : suc (y .end) ≡ x .end = sym (add-one (y .end)) ∙ sym (ap (λ z. z .end) (b .same)) in (
+      d .0
+          ∙ ap₂ (λ v t. numeral v ++ t) value (drop-cons text (y .end) 0 (b .inside) ∙ ap₂ (λ c i. c ∷ drop i text) (b .follows) end),
+      rw (sym value) (d .1),
+    )
 
 pub record Reads (text : List ℕ) (at most mark v : ℕ) (rest : List ℕ) : Type 0 where
   pub end : ℕ
@@ -169,16 +171,16 @@ field-reads text at m mark v rest other e short small =
     let value : reading 0 s ≡ v = ap (reading 0) digits ∙ reading-numeral v in
     let end = at + length (numeral v) in
     let test : leb (reading 0 s) greatest && isNumeral (suc m) s ≡ true =
-        ap₂ _&&_ (ap (λ r. leb r greatest) value ∙ le-leb v greatest small) (ap (isNumeral (suc m)) digits ∙ numeral-is m v short) in
+    ap₂ _&&_ (ap (λ r. leb r greatest) value ∙ le-leb v greatest small) (ap (isNumeral (suc m)) digits ∙ numeral-is m v short) in
     let read : decimalAt text at (suc m) ≡ Number (record { value = v; end = end }) =
-        ap (λ b. readIf b at s) test ∙ ap₂ (λ r d. Number (record { value = r; end = at + length d })) value digits in
+    ap (λ b. readIf b at s) test ∙ ap₂ (λ r d. Number (record { value = r; end = at + length d })) value digits in
     let sizes : length text - at ≡ length (numeral v) + suc (length rest) =
-        sym (length-drop at text) ∙ ap length e ∙ length-append (numeral v) (mark ∷ rest) in
+    sym (length-drop at text) ∙ ap length e ∙ length-append (numeral v) (mark ∷ rest) in
     let inside : end < length text = omega arith in
     let follows : getD text end 0 ≡ mark =
-        sym (getD-drop at text (length (numeral v)) 0) ∙ ap (λ l. getD l (length (numeral v)) 0) e ∙ getD-append-seam (numeral v) mark rest 0 in
+    sym (getD-drop at text (length (numeral v)) 0) ∙ ap (λ l. getD l (length (numeral v)) 0) e ∙ getD-append-seam (numeral v) mark rest 0 in
     let ahead : drop end text ≡ mark ∷ rest =
-        sym (drop-drop (length (numeral v)) at text) ∙ ap (drop (length (numeral v))) e ∙ drop-append-seam (numeral v) (mark ∷ rest) in
+    sym (drop-drop (length (numeral v)) at text) ∙ ap (drop (length (numeral v))) e ∙ drop-append-seam (numeral v) (mark ∷ rest) in
     record {
       end = end + 1;
       read = field-marked text at (suc m) mark (record { value = v; end = end }) read inside follows;
