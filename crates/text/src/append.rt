@@ -1,0 +1,89 @@
+// Pieces of text put into a lent buffer that is filled up to some place. A piece that does not fit leaves the buffer and the place unchanged.
+ghost use mathlib.Core.Path.{_≡_};
+ghost use mathlib.Core.List.{[], _∷_};
+ghost use Prim.Native.Nat.{_+_, _≤_};
+ghost use lib.ListN.{length, drop};
+ghost use lib.Seq.{paste};
+ghost use Rattle.text.specs.Text.{numeral};
+ghost use Rattle.text.specs.Appending.{fits, placeAfter, bufferAfter};
+
+// How far the buffer is filled after a piece, and whether the piece fitted.
+pub struct Put {
+    pub at: usize,
+    pub fits: bool,
+}
+
+// Copies the piece to the places of the buffer from `at` on.
+fn copy(piece: &[u8], buffer: &mut [u8], at: usize)
+    requires { ⌜ at + length (now piece) ≤ length (now buffer) ⌝ }
+    ensures { λ _. ⌜ now (buffer .exit) ≡ paste (now (buffer .entry)) at (now (piece .entry)) (length (now (piece .entry))) ⌝ }
+{
+    let mut j = 0;
+    while j < piece.len() {
+        buffer[at + j] = piece[j];
+        j += 1;
+    }
+}
+
+// Puts a piece in at the place `at`. The place is tested first, so a place past the buffer's end refuses every piece.
+pub fn append(buffer: &mut [u8], at: usize, piece: &[u8]) -> Put
+    ensures { λ r. ⌜ (r .at ≡ placeAfter (length (now (buffer .entry))) at (now (piece .entry)))
+        × (r .fits ≡ fits (length (now (buffer .entry))) at (now (piece .entry)))
+        × (now (buffer .exit) ≡ bufferAfter (now (buffer .entry)) at (now (piece .entry))) ⌝ }
+{
+    if buffer.len() < at {
+        return Put { at, fits: false };
+    }
+    if buffer.len() - at < piece.len() {
+        return Put { at, fits: false };
+    }
+    copy(piece, buffer, at);
+    Put {
+        at: at + piece.len(),
+        fits: true,
+    }
+}
+
+// A numeral: the digits from the place `start` on.
+struct Numeral {
+    digits: [u8; 20],
+    start: usize,
+}
+
+// The digits of x, the last first. A u64 has at most 20.
+fn numeral_of(x: u64) -> Numeral
+    ensures { λ r. ⌜ (r .start ≤ 20) × (drop (r .start) (r .digits) ≡ numeral x) ⌝ }
+{
+    let mut digits = [0u8; 20];
+    let mut start: usize = 20;
+    let mut rest = x;
+    while rest >= 10 {
+        start -= 1;
+        digits[start] = 48 + (rest % 10) as u8;
+        rest /= 10;
+    }
+    start -= 1;
+    digits[start] = 48 + rest as u8;
+    Numeral { digits, start }
+}
+
+// Puts one byte in.
+pub fn append_byte(buffer: &mut [u8], at: usize, byte: u8) -> Put
+    ensures { λ r. ⌜ (r .at ≡ placeAfter (length (now (buffer .entry))) at (byte ∷ []))
+        × (r .fits ≡ fits (length (now (buffer .entry))) at (byte ∷ []))
+        × (now (buffer .exit) ≡ bufferAfter (now (buffer .entry)) at (byte ∷ [])) ⌝ }
+{
+    append(buffer, at, &[byte])
+}
+
+// Puts a number in, in decimal digits.
+pub fn append_number(buffer: &mut [u8], at: usize, x: u64) -> Put
+    ensures { λ r. ⌜ (r .at ≡ placeAfter (length (now (buffer .entry))) at (numeral x))
+        × (r .fits ≡ fits (length (now (buffer .entry))) at (numeral x))
+        × (now (buffer .exit) ≡ bufferAfter (now (buffer .entry)) at (numeral x)) ⌝ }
+{
+    let n = numeral_of(x);
+    let digits = n.digits;
+    let start = n.start;
+    append(buffer, at, &digits[start..])
+}
