@@ -1,5 +1,4 @@
 -- Numerals and the numbers that they make; no part of the meaning.
---   numeral-small, -large == the numeral of a number below 10, and of another by its last digit
 --   numeral-more          == one more digit behind the numeral of a number that is not 0
 --   DigitBytes s          == every byte of s is a digit's
 --   numeral-digits        == a numeral consists of digits
@@ -22,48 +21,15 @@ use lib.ListN.{length, getD, length-append, List·getD-append}
 use Rattle.basics.specs.Choice.{is-true, holds}
 use Rattle.basics.specs.Order.{le-or-lt}
 use Rattle.basics.specs.Test.{and-left, and-right}
-use Rattle.text.specs.Text.{glyph, numeral, numeralWithin}
+use Rattle.text.specs.Text.{glyph, numeral}
+use Rattle.text.specs.TextLaws.{numeral-digit, numeral-step}
 use Rattle.settings_line.specs.Decimal.{isDigit, reading, isNumeral}
-
-within-small : (m x : ℕ) → x < 10 → numeralWithin (suc m) x ≡ glyph x ∷ []
-unfolding numeralWithin
-within-small m x h = rw (lt-ltb x 10 h, numeralWithin)
-
-within-large : (m x : ℕ) → 10 ≤ x → numeralWithin (suc m) x ≡ numeralWithin m (x / 10) ++ (glyph (x % 10) ∷ [])
-unfolding numeralWithin
-within-large m x h = rw (le-ltb x 10 h, numeralWithin)
-
--- more places than a number has digits leave its numeral as it is
-within-enough : (m l x : ℕ) → x ≤ m → x ≤ l → numeralWithin m x ≡ numeralWithin l x
-unfolding numeralWithin
-within-enough zero zero x h g = refl
-within-enough zero (suc l) x h g = let z : x ≡ 0 = omega arith in rw z
-within-enough (suc m) zero x h g = let z : x ≡ 0 = omega arith in rw z
-within-enough (suc m) (suc l) x h g =
-    ⊎-elim
-    (λ large.
-    within-large m x large
-    ∙ ap (λ s. s ++ (glyph (x % 10) ∷ [])) (within-enough m l (x / 10) (omega arith) (omega arith))
-    ∙ sym (within-large l x large))
-    (λ small. within-small m x small ∙ sym (within-small l x small)) (le-or-lt 10 x)
-
-pub numeral-small : (x : ℕ) → x < 10 → numeral x ≡ glyph x ∷ []
-unfolding numeral numeralWithin
-numeral-small zero h = refl
-numeral-small (suc x) h = within-small x (suc x) h
-
-pub numeral-large : (x : ℕ) → 10 ≤ x → numeral x ≡ numeral (x / 10) ++ (glyph (x % 10) ∷ [])
-unfolding numeral
-numeral-large zero h = absurd (omega arith)
-numeral-large (suc x) h =
-    within-large x (suc x) h
-    ∙ ap (λ s. s ++ (glyph (suc x % 10) ∷ [])) (within-enough x (suc x / 10) (suc x / 10) (omega arith) (le-refl (suc x / 10)))
 
 pub numeral-more : (x d : ℕ) → 1 ≤ x → d < 10 → numeral (x * 10 + d) ≡ numeral x ++ (glyph d ∷ [])
 numeral-more x d h l =
     let front : (x * 10 + d) / 10 ≡ x = omega arith in
     let last : (x * 10 + d) % 10 ≡ d = omega arith in
-    numeral-large (x * 10 + d) (omega arith) ∙ rw (front, last)
+    numeral-step (x * 10 + d) (omega arith) ∙ rw (front, last)
 
 pub data DigitBytes : List ℕ → Type 0 where
   none : DigitBytes []
@@ -76,16 +42,15 @@ digits-append (more l h d) e = more l h (digits-append d e)
 one-digit : (d : ℕ) → d < 10 → DigitBytes (glyph d ∷ [])
 one-digit d h = more {b = glyph d} (omega arith) (omega arith) none
 
-digits-within : (m x : ℕ) → DigitBytes (numeralWithin m x)
-unfolding numeralWithin
-digits-within zero x = one-digit (x % 10) (omega arith)
-digits-within (suc m) x =
-    ⊎-elim (λ large. rw (within-large m x large) (digits-append (digits-within m (x / 10)) (one-digit (x % 10) (omega arith))))
-    (λ small. rw (within-small m x small) (one-digit x small)) (le-or-lt 10 x)
+-- by induction on a bound of x
+digits-within : (m x : ℕ) → x ≤ m → DigitBytes (numeral x)
+digits-within zero x h = rw (numeral-digit x (omega arith)) (one-digit x (omega arith))
+digits-within (suc m) x h =
+    ⊎-elim (λ large. rw (numeral-step x large) (digits-append (digits-within m (x / 10) (omega arith)) (one-digit (x % 10) (omega arith))))
+    (λ small. rw (numeral-digit x small) (one-digit x small)) (le-or-lt 10 x)
 
 pub numeral-digits : (x : ℕ) → DigitBytes (numeral x)
-unfolding numeral
-numeral-digits x = digits-within x x
+numeral-digits x = digits-within x x (le-refl x)
 
 pub reading-append : (v : ℕ) (s t : List ℕ) → reading v (s ++ t) ≡ reading (reading v s) t
 unfolding reading
@@ -97,15 +62,15 @@ reading-within : (m x : ℕ) → x ≤ m → reading 0 (numeral x) ≡ x
 unfolding reading
 reading-within zero x h =
     let z : x ≡ 0 = omega arith in
-    ap (λ y. reading 0 (numeral y)) z ∙ ap (reading 0) (numeral-small 0 (omega arith)) ∙ sym z
+    ap (λ y. reading 0 (numeral y)) z ∙ ap (reading 0) (numeral-digit 0 (omega arith)) ∙ sym z
 reading-within (suc m) x h =
     ⊎-elim
     (λ large.
-    ap (reading 0) (numeral-large x large)
+    ap (reading 0) (numeral-step x large)
     ∙ reading-append 0 (numeral (x / 10)) (glyph (x % 10) ∷ [])
     ∙ ap (λ v. v * 10 + (glyph (x % 10) - 48)) (reading-within m (x / 10) (omega arith))
     ∙ omega arith)
-    (λ small. ap (reading 0) (numeral-small x small) ∙ omega arith) (le-or-lt 10 x)
+    (λ small. ap (reading 0) (numeral-digit x small) ∙ omega arith) (le-or-lt 10 x)
 
 pub reading-numeral : (x : ℕ) → reading 0 (numeral x) ≡ x
 reading-numeral x = reading-within x x (le-refl x)
@@ -128,7 +93,7 @@ numeral-reading [] none h w = absurd (omega arith)
 numeral-reading (b ∷ []) (more l u d) h w =
     let digit : 48 + (b - 48) ≡ b = omega arith in
     let alone : 0 * 10 + (b - 48) ≡ b - 48 = omega arith in
-    ap numeral alone ∙ numeral-small (b - 48) (omega arith) ∙ rw digit
+    ap numeral alone ∙ numeral-digit (b - 48) (omega arith) ∙ rw digit
 numeral-reading (b ∷ c ∷ s) (more l u d) h (inl e) = absurd (omega arith)
 numeral-reading (b ∷ c ∷ s) (more l u d) h (inr z) =
     let digit : 48 + (b - 48) ≡ b = omega arith in
@@ -136,11 +101,11 @@ numeral-reading (b ∷ c ∷ s) (more l u d) h (inr z) =
     let small : b - 48 < 10 = omega arith in
     let alone : 0 * 10 + (b - 48) ≡ b - 48 = omega arith in
     ap (λ v. numeral (reading v (c ∷ s))) alone
-    ∙ numeral-behind (b - 48) (omega arith) d ∙ rw (numeral-small (b - 48) small, digit)
+    ∙ numeral-behind (b - 48) (omega arith) d ∙ rw (numeral-digit (b - 48) small, digit)
 
 pub numeral-nonempty : (x : ℕ) → 1 ≤ length (numeral x)
 numeral-nonempty x =
-    ⊎-elim (λ large. rw (numeral-large x large, length-append) (omega arith)) (λ small. rw (numeral-small x small) (omega arith))
+    ⊎-elim (λ large. rw (numeral-step x large, length-append) (omega arith)) (λ small. rw (numeral-digit x small) (omega arith))
     (le-or-lt 10 x)
 
 first-within : (m x : ℕ) → x ≤ m → 1 ≤ x → getD (numeral x) 0 0 ≡ 48 → ⊥
@@ -149,24 +114,24 @@ first-within (suc m) x h p e =
     ⊎-elim
     (λ large.
     first-within m (x / 10) (omega arith) (omega arith)
-    (sym (List·getD-append (numeral (x / 10)) (glyph (x % 10) ∷ []) 0 0 (numeral-nonempty (x / 10))) ∙ (rw (numeral-large x large) at e)))
-    (λ small. let f : glyph x ≡ 48 = rw (numeral-small x small) at e in omega arith) (le-or-lt 10 x)
+    (sym (List·getD-append (numeral (x / 10)) (glyph (x % 10) ∷ []) 0 0 (numeral-nonempty (x / 10))) ∙ (rw (numeral-step x large) at e)))
+    (λ small. let f : glyph x ≡ 48 = rw (numeral-digit x small) at e in omega arith) (le-or-lt 10 x)
 
 -- a numeral has no needless leading zero
 pub numeral-first : (x : ℕ) → (length (numeral x) ≡ 1) ⊎ (getD (numeral x) 0 0 ≡ 48 → ⊥)
 numeral-first x =
     ⊎-elim (λ some. inr (first-within x x (le-refl x) some))
-    (λ none. let z : x ≡ 0 = omega arith in inl (ap length (ap numeral z ∙ numeral-small 0 (omega arith)))) (le-or-lt 1 x)
+    (λ none. let z : x ≡ 0 = omega arith in inl (ap length (ap numeral z ∙ numeral-digit 0 (omega arith)))) (le-or-lt 1 x)
 
 pub numeral-short : (m x : ℕ) → x < 10 ^ suc m → length (numeral x) ≤ suc m
-numeral-short zero x h = rw (numeral-small x h) (le-refl 1)
+numeral-short zero x h = rw (numeral-digit x h) (le-refl 1)
 numeral-short (suc m) x h =
     ⊎-elim
     (λ large.
     let wide : x < 10 ^ suc m * 10 = rw (pow-suc 10 (suc m)) at h in
     let rest = numeral-short m (x / 10) (omega arith) in
-    rw (numeral-large x large, length-append) (omega (arith, rest)))
-    (λ small. rw (numeral-small x small) (omega arith)) (le-or-lt 10 x)
+    rw (numeral-step x large, length-append) (omega (arith, rest)))
+    (λ small. rw (numeral-digit x small) (omega arith)) (le-or-lt 10 x)
 
 -- behind v, so many digits make less than v + 1 followed by as many zeros
 reading-bound : (v : ℕ) {s : List ℕ} → DigitBytes s → reading v s < suc v * 10 ^ length s
