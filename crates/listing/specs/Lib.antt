@@ -4,3 +4,5 @@ pub mod Steps
 pub mod ListingLaws
 pub mod StepsLaws
 pub mod Theorems
+pub mod LineFits
+pub mod Pieces
