@@ -6,7 +6,7 @@
 --   listingLine q n k i    == the line of the space with the extended index i
 --   linesFrom q n k i m    == the lines of the m extended indexes from i on, rising
 --   header                 == "extended,ferrers,rows" and a line feed
---   refusedLine r          == "refused,", the number r and a line feed
+--   refusedWord, refusedLine r == "refused,"; this, the number r and a line feed
 --   listingOutput input    == all that the program writes for the bytes of its input
 -- Assumes nothing.
 use mathlib.Core.Bool.{true, false}
@@ -40,12 +40,15 @@ unfoldable pub linesFrom : ℕ → ℕ → ℕ → ℕ → ℕ → List ℕ
 linesFrom q n k i zero = []
 linesFrom q n k i (suc m) = listingLine q n k i ++ linesFrom q n k (suc i) m
 
-abbrev pub header : List ℕ
+unfoldable pub header : List ℕ
 header =
     101 ∷ 120 ∷ 116 ∷ 101 ∷ 110 ∷ 100 ∷ 101 ∷ 100 ∷ 44 ∷ 102 ∷ 101 ∷ 114 ∷ 114 ∷ 101 ∷ 114 ∷ 115 ∷ 44 ∷ 114 ∷ 111 ∷ 119 ∷ 115 ∷ 10 ∷ []
 
+unfoldable pub refusedWord : List ℕ
+refusedWord = 114 ∷ 101 ∷ 102 ∷ 117 ∷ 115 ∷ 101 ∷ 100 ∷ 44 ∷ []
+
 unfoldable pub refusedLine : ℕ → List ℕ
-refusedLine r = 114 ∷ 101 ∷ 102 ∷ 117 ∷ 115 ∷ 101 ∷ 100 ∷ 44 ∷ numeral r ++ (lineFeed ∷ [])
+refusedLine r = refusedWord ++ numeral r ++ (lineFeed ∷ [])
 
 abbrev pub outputFor : Parsed → List ℕ
 outputFor Malformed = refusedLine lineRefusal

@@ -54,3 +54,11 @@ filled-more start s piece at buffer f room =
           ∙ append-assoc s piece (drop (length piece) (drop (length s) start))
           ∙ written-more start s piece;
     }
+
+-- the same, told by what the functions of the text answer and leave
+pub filled-put : (start s piece : List ℕ) (at : ℕ) (buffer : List ℕ) (next : ℕ) (after : List ℕ) → Filled start s at buffer
+    → length s + length piece ≤ length start → next ≡ placeAfter (length buffer) at piece → after ≡ bufferAfter buffer at piece
+    → Filled start (s ++ piece) next after
+filled-put start s piece at buffer next after f room e b =
+    let more = filled-more start s piece at buffer f room in
+    record { place = e ∙ more .place; holds = b ∙ more .holds }

@@ -87,10 +87,10 @@ lines-empty p true e z =
     (sym (ap length (chunk-live p e)) ∙ z))
 
 pub chunk-empty : (s : State) → length (chunkOf s) ≡ 0 → (remaining s ≡ []) × (nextState s ≡ Done)
-unfolding refusedLine
+unfolding header refusedLine
 chunk-empty (Header x) z = absurd (omega arith)
 chunk-empty (Lines p) z = lines-empty p (live p) refl z
-chunk-empty (Refused r) z = absurd (omega arith)
+chunk-empty (Refused r) z = let size = simp length-append at z in absurd (omega arith)
 chunk-empty Done z = (refl, refl)
 
 after-done : (m : ℕ) → stateAfter m Done ≡ Done

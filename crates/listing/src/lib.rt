@@ -1,4 +1,6 @@
 // The listing of all spaces of some settings, written chunk by chunk.
+mod write;
+
 ghost use mathlib.Core.Path.{_≡_};
 ghost use Prim.Native.Nat.{_≤_, _<_};
 ghost use Rattle.listing.specs.Listing.{listRefusal};
