@@ -6,3 +6,4 @@ pub mod StepsLaws
 pub mod Theorems
 pub mod LineFits
 pub mod Pieces
+pub mod Filling

@@ -5,15 +5,18 @@
 -- Assumes nothing.
 use mathlib.Core.Path.{_≡_, refl, ap, ap₂, _∙_, sym}
 use mathlib.Core.Bool.{true, _&&_}
-use mathlib.Core.List.{List, [], _++_, append-assoc}
+use mathlib.Core.List.{List, [], _∷_, _++_, append-assoc}
 use Prim.Native.Nat.{ℕ, _+_, _-_, _≤_}
 use native.Mathlib.Omega.{arith}
 use borrow.Author.Tests.{le-leb}
 use lib.Dec.{leb}
 use lib.ListN.{length, take, drop, length-append, length-drop}
 use lib.Seq.{paste, take-at, take-length, drop-drop, drop-append-add}
+use Rattle.text.specs.Text.{comma, lineFeed, numeral}
+use Rattle.text.specs.Rows.{rowsText}
 use Rattle.text.specs.Appending.{fits, placeAfter, bufferAfter}
 use Rattle.text.specs.AppendingLaws.{fitted}
+use Rattle.listing.specs.Listing.{lineText}
 
 abbrev pub written : List ℕ → List ℕ → List ℕ
 written piece buffer = piece ++ drop (length piece) buffer
@@ -62,3 +65,14 @@ pub filled-put : (start s piece : List ℕ) (at : ℕ) (buffer : List ℕ) (next
 filled-put start s piece at buffer next after f room e b =
     let more = filled-more start s piece at buffer f room in
     record { place = e ∙ more .place; holds = b ∙ more .holds }
+
+-- a line by its six pieces, and its length
+pub line-pieces : (a b n k : ℕ) (m : List ℕ)
+    → numeral a ++ (comma ∷ []) ++ numeral b ++ (comma ∷ []) ++ rowsText n k m ++ (lineFeed ∷ []) ≡ lineText a b n k m
+unfolding lineText
+line-pieces a b n k m = simp append-assoc
+
+pub line-size : (a b n k : ℕ) (m : List ℕ)
+    → length (lineText a b n k m) ≡ length (numeral a) + length (numeral b) + length (rowsText n k m) + 3
+unfolding lineText
+line-size a b n k m = simp length-append (omega arith)

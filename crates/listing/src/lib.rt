@@ -4,7 +4,9 @@ mod write;
 ghost use mathlib.Core.Path.{_≡_};
 ghost use Prim.Native.Nat.{_≤_, _<_};
 ghost use Rattle.listing.specs.Listing.{listRefusal};
-ghost use Rattle.listing.specs.Steps.{linesEnd, begun};
+ghost use lib.ListN.{length};
+ghost use Rattle.listing.specs.Steps.{linesEnd, begun, linesChunk, linesNext, chunkOf, nextState};
+ghost use Rattle.listing.specs.Pieces.{written};
 use settings_line::Parsed;
 use settings_line::Settings;
 
@@ -64,4 +66,74 @@ fn lines_end(count: u64, index: u64) -> u64
         return count;
     }
     index + 64
+}
+
+// What a step answers: the state after it, and how many bytes of the chunk it wrote.
+pub struct Stepped {
+    pub state: State,
+    pub size: usize,
+}
+
+// A step among the lines.
+fn lines_step(progress: Progress, chunk: &mut [u8]) -> Stepped
+    requires { ⌜ length (now chunk) ≡ 20480 ⌝ }
+    ensures { λ r. ⌜ (r .state ≡ linesNext progress) × (r .size ≡ length (linesChunk progress))
+        × (now (chunk .exit) ≡ written (linesChunk progress) (now (chunk .entry))) ⌝ }
+{
+    let q = progress.q;
+    let n = progress.n;
+    let k = progress.k;
+    let index = progress.index;
+    if list_refusal(q, n, k) != 0 {
+        return Stepped {
+            state: State::Done,
+            size: 0,
+        };
+    }
+    let count = gaussian::coefficient(q, n, k);
+    if count <= index {
+        return Stepped {
+            state: State::Done,
+            size: 0,
+        };
+    }
+    let to = lines_end(count, index);
+    let size = write::write_lines(chunk, q, n, k, index, to);
+    Stepped {
+        state: State::Lines(Progress { q, n, k, index: to }),
+        size,
+    }
+}
+
+// Writes the next chunk of what is still to be written to the front of the lent one. A size of 0 is the end.
+pub fn step(state: State, chunk: &mut [u8; 20480]) -> Stepped
+    ensures { λ r. ⌜ (r .state ≡ nextState state) × (r .size ≡ length (chunkOf state))
+        × (now (chunk .exit) ≡ written (chunkOf state) (now (chunk .entry))) ⌝ }
+{
+    match state {
+        State::Header(settings) => {
+            let size = write::write_header(chunk);
+            Stepped {
+                state: State::Lines(Progress {
+                    q: settings.q,
+                    n: settings.n,
+                    k: settings.k,
+                    index: 0,
+                }),
+                size,
+            }
+        }
+        State::Lines(progress) => lines_step(progress, chunk),
+        State::Refused(number) => {
+            let size = write::write_refused(chunk, number);
+            Stepped {
+                state: State::Done,
+                size,
+            }
+        }
+        State::Done => Stepped {
+            state: State::Done,
+            size: 0,
+        },
+    }
 }

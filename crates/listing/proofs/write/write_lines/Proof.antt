@@ -1,58 +1,75 @@
+-- `listing::write::write_lines` meets its contract: the lines passed stand at the buffer's front, each at most 276 bytes long, so that the next
+-- has its 320 bytes of room.
+use mathlib.Core.Path.{_≡_, _∙_, ap, sym}
+use Prim.Native.Nat.{_+_, _*_, _-_, _≤_}
+use native.Mathlib.Omega.{arith}
+use borrow.Author.Needs.{needs}
+use lib.ListN.{length}
+use Rattle.listing.specs.Listing.{linesFrom}
+use Rattle.listing.specs.LineFits.{line-fits}
+use Rattle.listing.specs.Filling.{filling-small, Filling, filling-start, filling-length, filling-room, filling-more, filling-end}
 use Rattle.listing.proofs.write.write_lines.Statement.{statement}
 use Rattle.listing.proofs.write.write_lines.Tie as tie
-use Rattle.listing.proofs.write.write_lines.Reads as reads
-use Rattle.listing.proofs.write.write_lines.Lts as lts
-use Rattle.listing.proofs.write.write_listing_line.Reads as write-listing-line-reads
 
 abbrev Inv-loop : tie.InvT-loop
-Inv-loop buffer₀ q n k from to at₀ index₀ buffer at index = ?
+Inv-loop buffer₀ q n k from to at₀ index₀ buffer at index = Filling q n k from to buffer₀ buffer at index
 
 abbrev μ-loop : tie.MeasureT-loop
-μ-loop buffer₀ q n k from to at₀ index₀ buffer at index = ?
+μ-loop buffer₀ q n k from to at₀ index₀ buffer at index = to - index
 
--- src/write.rt:80:5
 loop-holds : tie.Need-loop-holds Inv-loop μ-loop
-loop-holds c = ?
+loop-holds c = filling-start _ _ _ _ _ _ (c .before .pre .1)
 
--- src/write.rt:81:34
 sub-write-listing-line : tie.Need-sub-write-listing-line Inv-loop μ-loop
-sub-write-listing-line c = ?
+sub-write-listing-line c = let s = c .before .before .before in filling-room _ _ _ _ _ _ _ _ _ (c .before .loop .inv) (s .pre .0) (s .pre .2) (s .pre .3) (s .pre .4) (c .loop-test .taken) .0
 
--- src/write.rt:81:34
 part-write-listing-line-start : tie.Need-part-write-listing-line-start Inv-loop μ-loop
-part-write-listing-line-start c = ?
+part-write-listing-line-start c = let room = sub-write-listing-line c in omega arith
 
--- src/write.rt:81:34
 part-write-listing-line-end : tie.Need-part-write-listing-line-end Inv-loop μ-loop
-part-write-listing-line-end c = ?
+part-write-listing-line-end c = omega arith
 
--- src/write.rt:81:15
 write-listing-line-requires : tie.Need-write-listing-line-requires Inv-loop μ-loop
-write-listing-line-requires c κs = ?
+write-listing-line-requires c κs =
+    let l = c .before .before in
+    let s = l .before .before in
+    let test = c .before .loop-test .taken in
+    (s .pre .0, omega (arith, s .pre .2, test),
+      filling-room _ _ _ _ _ _ _ _ _ (l .loop .inv) (s .pre .0) (s .pre .2) (s .pre .3) (s .pre .4) test .1)
 
--- src/write.rt:81:9
 add-at : tie.Need-add-at Inv-loop μ-loop
-add-at c = ?
+add-at c =
+    let w = c .before .before in
+    let l = w .before .before .before in
+    let s = l .before .before in
+    let a = s .args in
+    let test = w .before .before .loop-test .taken in
+    omega (arith,
+      filling-small _ _ _ _ _ _ _ _ _ (l .loop .inv) (s .pre .0) (s .pre .2) (s .pre .3) (s .pre .4), w .write-listing-line .ensures .0,
+      line-fits (a .q) (a .n) (a .k) (l .loop .index) (s .pre .0) (omega (arith, s .pre .2, test)), s .pre .3, l .loop .inv .above, test)
 
--- src/write.rt:82:9
 add-index : tie.Need-add-index Inv-loop μ-loop
-add-index c = ?
+add-index c = omega arith
 
--- src/write.rt:80:5
 loop-less : tie.Need-loop-less Inv-loop μ-loop
-loop-less c = ?
+loop-less c = omega arith
 
--- src/write.rt:80:5
 loop-again : tie.Need-loop-again Inv-loop μ-loop
-loop-again c = ?
+loop-again c =
+    let w = c .before .before in
+    let l = w .before .before .before in
+    let s = l .before .before in
+    filling-more _ _ _ _ _ _ _ _ _ (l .loop .inv) (s .pre .0) (s .pre .2) (s .pre .3) (s .pre .4) _ _ (w .before .before .loop-test .taken)
+    (w .write-listing-line .ensures .0) (w .write-listing-line .ensures .1)
 
--- src/write.rt:73:1
 same-length : tie.Need-same-length Inv-loop μ-loop
-same-length c = ?
+same-length c =
+    let l = c .before in
+    let s = l .before .before in
+    filling-length _ _ _ _ _ _ _ _ _ (l .loop .inv) (s .pre .0) (s .pre .2) (s .pre .3) (s .pre .4)
 
--- src/write.rt:73:1
 returns : tie.Need-returns Inv-loop μ-loop
-returns c = ?
+returns c = filling-end _ _ _ _ _ _ _ _ _ (c .before .loop .inv) (c .loop-test .left)
 
 pub write-lines-spec : {M : Type 1} → statement M
 write-lines-spec =

@@ -1,59 +1,126 @@
+-- `listing::write::write_listing_line` meets its contract: the part of the local array that is drawn into is the drawn matrix, which is reduced,
+-- numbered and written.
+use mathlib.Core.Path.{_≡_, _∙_, ap, ap₂, sym, subst}
+use mathlib.Core.List.{List, _++_}
+use Prim.Native.Nat.{ℕ, _*_, _≤_}
+use native.Mathlib.Nat.{min-eq-left, mul-le-mul}
+use native.Mathlib.Omega.{arith}
+use lib.ListN.{length, take, drop, replicate, length-take, length-append}
+use lib.Seq.{take-at}
+use Rattle.matrix.specs.Matrix.{Reduced}
+use Rattle.extended.specs.Ranked.{drawnExtended}
+use Rattle.ferrers.specs.Ferrers.{ferrersIndex}
+use Rattle.text.specs.Rows.{DigitRows}
+use Rattle.text.specs.RowsLaws.{size-bound}
+use Rattle.listing.specs.Listing.{lineText, listingLine}
+use Rattle.listing.specs.LineFits.{drawn-is-reduced, digit-rows, line-fits}
+use Rattle.listing.specs.Pieces.{written}
 use borrow.Author.Needs.{needs}
 use Rattle.listing.proofs.write.write_listing_line.Statement.{statement}
 use Rattle.listing.proofs.write.write_listing_line.Tie as tie
-use Rattle.listing.proofs.write.write_listing_line.Reads as reads
-use Rattle.listing.proofs.write.write_listing_line.Lts as lts
-use Rattle.extended.proofs.unrank.Reads as unrank-reads
-use Rattle.ferrers.proofs.rank.Reads as rank-reads
-use Rattle.listing.proofs.write.write_line.Reads as write-line-reads
 
--- src/write.rt:53:17
+short : (c : tie.After-slice-known) → c .before .args .k * c .before .args .n ≤ 256
+short c =
+    let a = c .before .pre .0 .settings in
+    size-bound (c .before .args .n) (c .before .args .k) (a .narrow) (omega (arith, a .dimension, a .narrow))
+
+zeros : List ℕ
+zeros = replicate 256 0
+
+part : (size : ℕ) → size ≤ 256 → length (take size zeros) ≡ size
+unfolding zeros
+part size h = length-take size zeros ∙ min-eq-left h
+
+-- the drawn matrix at the front of the array
+filled : (c : tie.After-unrank) → let a = c .before .before .before .args in length (c .unrank .last .0) ≡ a .k * a .n
+unfolding zeros
+filled c = c .unrank .kept .0 ∙ part _ (short (c .before .before))
+
+front : (c : tie.After-unrank) → let a = c .before .before .before .args in
+    take (a .k * a .n) (c .unrank .last .0 ++ drop (a .k * a .n) zeros) ≡ drawnExtended (a .q) (a .n) (a .k) (a .index)
+unfolding zeros
+front c =
+    let a = c .before .before .before .args in
+    take-at (c .unrank .last .0) (drop (a .k * a .n) zeros) (a .k * a .n) (filled c) ∙ c .unrank .ensures
+
+sized : (c : tie.After-unrank) → let a = c .before .before .before .args in
+    a .k * a .n ≡ length (take (a .k * a .n) (c .unrank .last .0 ++ drop (a .k * a .n) zeros))
+unfolding zeros
+sized c =
+    let a = c .before .before .before .args in
+    sym (ap length (take-at (c .unrank .last .0) (drop (a .k * a .n) zeros) (a .k * a .n) (filled c)) ∙ filled c)
+
+-- the line that is written is the listing's
+line : (c : tie.After-rank) →
+    let f = c .before .before .before in
+    let a = f .before .before .before .args in
+    lineText (a .index) (c .rank .result .0) (a .n) (a .k) (take (a .k * a .n) (f .unrank .last .0 ++ drop (a .k * a .n) zeros))
+    ≡ listingLine (a .q) (a .n) (a .k) (a .index)
+unfolding zeros listingLine
+line c =
+    let f = c .before .before .before in
+    let a = f .before .before .before .args in
+    ap₂ (λ i m. lineText (a .index) i (a .n) (a .k) m) (c .rank .ensures ∙ ap (ferrersIndex (a .q) (a .n) (a .k)) (front f)) (front f)
+
 mul-size : tie.Need-mul-size
-mul-size c = ?
+mul-size c = omega (arith, short c)
 
--- src/write.rt:55:9
 array-borrow-prefix-entries : tie.Need-array-borrow-prefix-entries
-array-borrow-prefix-entries c = ?
+array-borrow-prefix-entries c = short c
 
--- src/write.rt:55:9
 slice-aggregate-unrank : tie.Need-slice-aggregate-unrank
-slice-aggregate-unrank c = ?
+unfolding zeros
+slice-aggregate-unrank c = sym (part _ (short (c .before)))
 
--- src/write.rt:54:5
 unrank-requires : tie.Need-unrank-requires
-unrank-requires c κs = ?
+unfolding zeros
+unrank-requires c κs = let s = c .before .before in (s .pre .0 .settings, s .pre .1, part _ (short (c .before)))
 
--- src/write.rt:61:33
 array-share-prefix-entries : tie.Need-array-share-prefix-entries
-array-share-prefix-entries c = ?
+unfolding zeros
+array-share-prefix-entries c = rw (length-append _ (drop _ zeros)) (omega (arith, filled (c .before)))
 
--- src/write.rt:61:33
 slice-aggregate-rank : tie.Need-slice-aggregate-rank
-slice-aggregate-rank c = ?
+unfolding zeros
+slice-aggregate-rank c = sized (c .before .before)
 
--- src/write.rt:61:9
 rank-requires : tie.Need-rank-requires
-rank-requires c κs = ?
+unfolding zeros
+rank-requires c κs =
+    let f = c .before .before in
+    let s = f .before .before .before in
+    let a = s .args in
+    (s .pre .0 .settings,
+      subst (Reduced (a .q) (a .n) (a .k)) (sym (front f)) (drawn-is-reduced (a .q) (a .n) (a .k) (a .index) (s .pre .0 .settings) (s .pre .1)))
 
--- src/write.rt:66:9
 array-share-prefix-entries-2 : tie.Need-array-share-prefix-entries-2
-array-share-prefix-entries-2 c = ?
+unfolding zeros
+array-share-prefix-entries-2 c = rw (length-append _ (drop _ zeros)) (omega (arith, filled (c .before .before .before .before)))
 
--- src/write.rt:66:9
 slice-aggregate-write-line : tie.Need-slice-aggregate-write-line
-slice-aggregate-write-line c = ?
+unfolding zeros
+slice-aggregate-write-line c = sized (c .before .before .before .before .before)
 
--- src/write.rt:62:5
 write-line-requires : tie.Need-write-line-requires
-write-line-requires c κs = ?
+unfolding zeros
+write-line-requires c κs =
+    let r = c .before .before in
+    let f = r .before .before .before in
+    let s = f .before .before .before in
+    let a = s .args in
+    (subst (DigitRows (a .n) (a .k)) (sym (front f)) (digit-rows (a .q) (a .n) (a .k) (a .index) (s .pre .0 .settings) (s .pre .1)),
+      omega (arith, ap length (line r), line-fits (a .q) (a .n) (a .k) (a .index) (s .pre .0) (s .pre .1), s .pre .2))
 
--- src/write.rt:48:1
 same-length : tie.Need-same-length
 same-length c = search needs
 
--- src/write.rt:48:1
 returns : tie.Need-returns
-returns c = ?
+unfolding zeros
+returns c =
+    let w = c .before .before in
+    let r = w .before .before .before in
+    let a = r .before .before .before .before .before .before .args in
+    (w .write-line .ensures .0 ∙ ap length (line r), w .write-line .ensures .1 ∙ ap (λ t. written t (a .buffer .now)) (line r))
 
 pub write-listing-line-spec : {M : Type 1} → statement M
 write-listing-line-spec =

@@ -1,0 +1,105 @@
+-- What the loop that writes lines keeps; no part of the meaning.
+--   Filling q n k from to start buffer at index == the lines from `from` up to `index` stand at the front of the buffer, which was `start`
+--   lines-short     == m lines have at most 276 m bytes
+--   filling-start, -more, -end == it holds at the start and after one more line, and what it tells at the end
+--   filling-small, -length == how far the buffer is filled at most, and that it keeps its length
+--   filling-lent, -room    == the next line has 320 bytes of room
+-- Assumes nothing.
+use mathlib.Core.Path.{_≡_, refl, ap, ap₂, _∙_, sym}
+use mathlib.Core.List.{List, [], _++_, append-nil}
+use Prim.Native.Nat.{ℕ, zero, suc, _+_, _*_, _-_, _≤_, _<_}
+use native.Mathlib.Omega.{arith}
+use lib.ListN.{length, take, drop, length-append, length-drop, drop-of-length-le}
+use lib.Seq.{take-at, take-all, drop-at}
+use Rattle.gaussian.specs.Gaussian.{gaussian}
+use Rattle.listing.specs.Listing.{listingLine, linesFrom}
+use Rattle.listing.specs.ListingLaws.{Listable, lines-more}
+use Rattle.listing.specs.LineFits.{line-fits}
+use Rattle.listing.specs.Pieces.{written, written-length, written-more}
+
+pub record Filling (q n k from to : ℕ) (start buffer : List ℕ) (at index : ℕ) : Type 0 where
+  pub above : from ≤ index
+  pub below : index ≤ to
+  pub place : at ≡ length (linesFrom q n k from (index - from))
+  pub holds : buffer ≡ written (linesFrom q n k from (index - from)) start
+
+pub lines-short : (q n k i m : ℕ) → Listable q n k → i + m ≤ gaussian q n k → length (linesFrom q n k i m) ≤ m * 276
+unfolding linesFrom
+lines-short q n k i zero l h = omega arith
+lines-short q n k i (suc m) l h =
+    rw (length-append (listingLine q n k i) (linesFrom q n k (suc i) m))
+    (omega (arith, line-fits q n k i l (omega arith), lines-short q n k (suc i) m l (omega arith)))
+
+pub filling-start : (q n k from to : ℕ) (start : List ℕ) → from ≤ to → Filling q n k from to start start 0 from
+unfolding linesFrom
+filling-start q n k from to start h =
+    let none : from - from ≡ 0 = omega arith in
+    record {
+      above = omega arith;
+      below = h;
+      place = ap (λ m. length (linesFrom q n k from m)) (sym none);
+      holds = ap (λ m. written (linesFrom q n k from m) start) (sym none);
+    }
+
+module _ (q n k from to : ℕ) (start buffer : List ℕ) (at index : ℕ) (f : Filling q n k from to start buffer at index)
+    (l : Listable q n k) (inside : to ≤ gaussian q n k) (few : to - from ≤ 64) (room : 20480 ≤ length start) where
+  pub filling-small : at ≤ (index - from) * 276
+  filling-small =
+      let above : from ≤ index = f .above in
+      let below : index ≤ to = f .below in
+      let place = f .place in
+      omega (arith, lines-short q n k from (index - from) l (omega arith))
+
+  pub filling-length : length buffer ≡ length start
+  filling-length =
+      let above : from ≤ index = f .above in
+      let below : index ≤ to = f .below in
+      let place = f .place in
+      ap length (f .holds) ∙ written-length start (linesFrom q n k from (index - from)) (omega (arith, filling-small))
+
+  -- all that lies from the place on is lent to the next line
+  pub filling-lent : take (length buffer - at) (drop at buffer) ≡ drop at buffer
+  filling-lent = take-all (length buffer - at) (drop at buffer) (omega (arith, length-drop at buffer))
+
+  pub filling-room : index < to → (at ≤ length buffer) × (320 ≤ length (take (length buffer - at) (drop at buffer)))
+  filling-room h =
+      let above : from ≤ index = f .above in
+      let size = filling-length in
+      let far = filling-small in
+      (omega arith, rw (filling-lent, length-drop at buffer) (omega arith))
+
+  -- the next line is written to what was lent
+  pub filling-more : (size : ℕ) (part : List ℕ) → index < to → size ≡ length (listingLine q n k index)
+      → part ≡ written (listingLine q n k index) (take (length buffer - at) (drop at buffer))
+      → Filling q n k from to start (take at buffer ++ (part ++ drop (length buffer - at) (drop at buffer))) (at + size) (index + 1)
+  filling-more size part h e b =
+      let line = listingLine q n k index in
+      let lines = linesFrom q n k from (index - from) in
+      let above : from ≤ index = f .above in
+      let count : index + 1 - from ≡ index - from + 1 = omega arith in
+      let next : from + (index - from) ≡ index = omega arith in
+      let more : linesFrom q n k from (index + 1 - from) ≡ lines ++ line =
+          ap (linesFrom q n k from) count ∙ lines-more q n k from (index - from) ∙ ap (λ i. lines ++ listingLine q n k i) next in
+      let front : take at buffer ≡ lines = ap (take at) (f .holds) ∙ take-at lines (drop (length lines) start) at (sym (f .place)) in
+      let rest : drop at buffer ≡ drop (length lines) start = ap (drop at) (f .holds) ∙ drop-at lines (drop (length lines) start) at (sym (f .place)) in
+      let past : length (drop at buffer) ≤ length buffer - at = omega (arith, length-drop at buffer) in
+      let nothing : drop (length buffer - at) (drop at buffer) ≡ [] = drop-of-length-le (drop at buffer) past in
+      let one-more : index + 1 ≤ to = omega (arith, h) in
+      record {
+        above = omega arith;
+        below = one-more;
+        place = ap₂ _+_ (f .place) e ∙ sym (length-append lines line) ∙ ap length (sym more);
+        holds =
+            ap₂ (λ x y. take at buffer ++ (x ++ y)) (b ∙ ap (written line) (filling-lent ∙ rest)) nothing
+            ∙ ap₂ _++_ front (append-nil (written line (drop (length lines) start)))
+            ∙ written-more start lines line
+            ∙ ap (λ t. written t start) (sym more);
+      }
+
+pub filling-end : (q n k from to : ℕ) (start buffer : List ℕ) (at index : ℕ) → Filling q n k from to start buffer at index → to ≤ index
+    → (at ≡ length (linesFrom q n k from (to - from))) × (buffer ≡ written (linesFrom q n k from (to - from)) start)
+filling-end q n k from to start buffer at index f h =
+    let below : index ≤ to = f .below in
+    let same : index ≡ to = omega arith in
+    (f .place ∙ ap (λ i. length (linesFrom q n k from (i - from))) same,
+      f .holds ∙ ap (λ i. written (linesFrom q n k from (i - from)) start) same)
