@@ -79,7 +79,7 @@ module _ (q n k from to : ℕ) (start buffer : List ℕ) (at index : ℕ) (f : F
       let count : index + 1 - from ≡ index - from + 1 = omega arith in
       let next : from + (index - from) ≡ index = omega arith in
       let more : linesFrom q n k from (index + 1 - from) ≡ lines ++ line =
-          ap (linesFrom q n k from) count ∙ lines-more q n k from (index - from) ∙ ap (λ i. lines ++ listingLine q n k i) next in
+      ap (linesFrom q n k from) count ∙ lines-more q n k from (index - from) ∙ ap (λ i. lines ++ listingLine q n k i) next in
       let front : take at buffer ≡ lines = ap (take at) (f .holds) ∙ take-at lines (drop (length lines) start) at (sym (f .place)) in
       let rest : drop at buffer ≡ drop (length lines) start = ap (drop at) (f .holds) ∙ drop-at lines (drop (length lines) start) at (sym (f .place)) in
       let past : length (drop at buffer) ≤ length buffer - at = omega (arith, length-drop at buffer) in
@@ -100,6 +100,7 @@ pub filling-end : (q n k from to : ℕ) (start buffer : List ℕ) (at index : �
     → (at ≡ length (linesFrom q n k from (to - from))) × (buffer ≡ written (linesFrom q n k from (to - from)) start)
 filling-end q n k from to start buffer at index f h =
     let below : index ≤ to = f .below in
-    let same : index ≡ to = omega arith in
-    (f .place ∙ ap (λ i. length (linesFrom q n k from (i - from))) same,
-      f .holds ∙ ap (λ i. written (linesFrom q n k from (i - from)) start) same)
+    let same : index ≡ to = omega arith in (
+      f .place ∙ ap (λ i. length (linesFrom q n k from (i - from))) same,
+      f .holds ∙ ap (λ i. written (linesFrom q n k from (i - from)) start) same,
+    )

@@ -2,8 +2,8 @@
 pub mod Listing
 pub mod Steps
 pub mod ListingLaws
+pub mod Pieces
 pub mod StepsLaws
 pub mod Theorems
 pub mod LineFits
-pub mod Pieces
 pub mod Filling

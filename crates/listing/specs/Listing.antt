@@ -54,8 +54,8 @@ abbrev pub outputFor : Parsed → List ℕ
 outputFor Malformed = refusedLine lineRefusal
 outputFor (settings x) =
     elim (eqb (listRefusal (x .q) (x .n) (x .k)) 0) [
-      true ↦ header ++ linesFrom (x .q) (x .n) (x .k) 0 (gaussian (x .q) (x .n) (x .k))
-    | false ↦ refusedLine (listRefusal (x .q) (x .n) (x .k))
+      | true ↦ header ++ linesFrom (x .q) (x .n) (x .k) 0 (gaussian (x .q) (x .n) (x .k))
+      | false ↦ refusedLine (listRefusal (x .q) (x .n) (x .k))
     ]
 
 unfoldable pub listingOutput : List ℕ → List ℕ

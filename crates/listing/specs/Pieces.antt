@@ -43,11 +43,11 @@ filled-more start s piece at buffer f room =
     let place : at ≡ length s = f .place in
     let size : length buffer ≡ length start = ap length (f .holds) ∙ written-length start s (omega arith) in
     let room-left : fits (length buffer) at piece ≡ true =
-        ap₂ _&&_ (le-leb at (length buffer) (omega arith)) (le-leb (length piece) (length buffer - at) (omega arith)) in
+    ap₂ _&&_ (le-leb at (length buffer) (omega arith)) (le-leb (length piece) (length buffer - at) (omega arith)) in
     let fit = fitted buffer at piece room-left in
     let front : take at buffer ≡ s = ap (take at) (f .holds) ∙ take-at s (drop (length s) start) at (sym place) in
     let rest : drop (at + length piece) buffer ≡ drop (length piece) (drop (length s) start) =
-        ap₂ (λ i b. drop (i + length piece) b) place (f .holds) ∙ drop-append-add s (drop (length s) start) (length piece) in
+    ap₂ (λ i b. drop (i + length piece) b) place (f .holds) ∙ drop-append-add s (drop (length s) start) (length piece) in
     record {
       place = sym (fit .0) ∙ ap (λ i. i + length piece) place ∙ sym (length-append s piece);
       holds =

@@ -40,8 +40,8 @@ started x = record { q = x .q; n = x .n; k = x .k; index = 0 }
 unfoldable pub remainingLines : Progress → List ℕ
 remainingLines p =
     elim (live p) [
-      true ↦ linesFrom (p .q) (p .n) (p .k) (p .index) (gaussian (p .q) (p .n) (p .k) - p .index)
-    | false ↦ []
+      | true ↦ linesFrom (p .q) (p .n) (p .k) (p .index) (gaussian (p .q) (p .n) (p .k) - p .index)
+      | false ↦ []
     ]
 
 abbrev pub remaining : State → List ℕ
@@ -61,8 +61,8 @@ begun input = begunFor (parsed input)
 unfoldable pub linesChunk : Progress → List ℕ
 linesChunk p =
     elim (live p) [
-      true ↦ linesFrom (p .q) (p .n) (p .k) (p .index) (linesEnd (gaussian (p .q) (p .n) (p .k)) (p .index) - p .index)
-    | false ↦ []
+      | true ↦ linesFrom (p .q) (p .n) (p .k) (p .index) (linesEnd (gaussian (p .q) (p .n) (p .k)) (p .index) - p .index)
+      | false ↦ []
     ]
 
 abbrev pub chunkOf : State → List ℕ

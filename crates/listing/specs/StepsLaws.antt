@@ -1,9 +1,10 @@
 -- Laws of the steps; no part of the meaning.
 --   begun-malformed, -refused, -header == the state in which the program begins, by what its input is found to be
---   live-is, is-live, past-dead  == when lines are left
+--   live-is, is-live, refused-dead, past-dead  == when lines are left
 --   end-short, end-long, end-within == up to which index the next chunk lists
 --   remaining-from   == where the settings are not refused, the lines from the index on are left
 --   chunk-live, chunk-dead, next-live, next-dead == a step among the lines
+--   dead-step, live-step == what it answers and leaves
 -- Assumes nothing.
 use mathlib.Core.Path.{_≡_, refl, ap, ap₂, _∙_, sym}
 use mathlib.Core.Bool.{Bool, true, false, _&&_}
@@ -26,6 +27,7 @@ use Rattle.settings_line.specs.declared.Parsed.the-variants.{Settings as settin
 use Rattle.listing.specs.Listing.{listRefusal, listingLine, linesFrom, header, refusedLine, outputFor, listingOutput}
 use Rattle.listing.specs.ListingLaws.{Listable, listable, lines-append, line-nonempty}
 use Rattle.listing.specs.Steps.{live, linesEnd, progressTo, started, remainingLines, remaining, begunFor, begun, linesChunk, chunkOf, linesNext, nextState, stateAfter, chunks}
+use Rattle.listing.specs.Pieces.{written}
 use Rattle.listing.specs.declared.Progress.{Progress}
 use Rattle.listing.specs.declared.State.{State}
 use Rattle.listing.specs.declared.State.the-variants.{Header, Lines, Refused, Done}
@@ -49,6 +51,10 @@ live-is p e =
 pub is-live : (p : Progress) → refusalOf p ≡ 0 → p .index < countOf p → live p ≡ true
 unfolding live
 is-live p r h = rw (eq-eqb (refusalOf p) 0 r, lt-ltb (p .index) (countOf p) h)
+
+pub refused-dead : (p : Progress) → (refusalOf p ≡ 0 → ⊥) → live p ≡ false
+unfolding live
+refused-dead p r = rw (ne-eqb (refusalOf p) 0 r)
 
 pub past-dead : (p : Progress) → countOf p ≤ p .index → live p ≡ false
 unfolding live
@@ -124,3 +130,16 @@ next-live p e = rw (e, linesNext)
 pub next-dead : (p : Progress) → live p ≡ false → linesNext p ≡ Done
 unfolding linesNext
 next-dead p e = rw (e, linesNext)
+
+pub dead-step : (p : Progress) (chunk : List ℕ) → live p ≡ false
+    → (Done ≡ linesNext p) × (0 ≡ length (linesChunk p)) × (chunk ≡ written (linesChunk p) chunk)
+dead-step p chunk e = (sym (next-dead p e), sym (ap length (chunk-dead p e)), ap (λ t. written t chunk) (sym (chunk-dead p e)))
+
+pub live-step : (p : Progress) (chunk : List ℕ) (to size : ℕ) (after : List ℕ) → live p ≡ true → to ≡ linesEnd (countOf p) (p .index)
+    → size ≡ length (linesFrom (p .q) (p .n) (p .k) (p .index) (to - p .index))
+    → after ≡ written (linesFrom (p .q) (p .n) (p .k) (p .index) (to - p .index)) chunk
+    → (Lines (progressTo p to) ≡ linesNext p) × (size ≡ length (linesChunk p)) × (after ≡ written (linesChunk p) chunk)
+live-step p chunk to size after e t s a =
+    let lines : linesFrom (p .q) (p .n) (p .k) (p .index) (to - p .index) ≡ linesChunk p =
+    ap (λ u. linesFrom (p .q) (p .n) (p .k) (p .index) (u - p .index)) t ∙ sym (chunk-live p e) in
+    (ap (λ u. Lines (progressTo p u)) t ∙ sym (next-live p e), s ∙ ap length lines, a ∙ ap (λ u. written u chunk) lines)

@@ -37,8 +37,8 @@ output-for (settings x) = cases (eqb (listRefusal (x .q) (x .n) (x .k)) 0) refl
     cases : (b : Bool) → eqb (listRefusal (x .q) (x .n) (x .k)) 0 ≡ b
         → remaining (elim b [ true ↦ Header x | false ↦ Refused (listRefusal (x .q) (x .n) (x .k)) ])
         ≡ elim b [
-          true ↦ header ++ linesFrom (x .q) (x .n) (x .k) 0 (gaussian (x .q) (x .n) (x .k))
-        | false ↦ refusedLine (listRefusal (x .q) (x .n) (x .k))
+          | true ↦ header ++ linesFrom (x .q) (x .n) (x .k) 0 (gaussian (x .q) (x .n) (x .k))
+          | false ↦ refusedLine (listRefusal (x .q) (x .n) (x .k))
         ]
     cases true e =
         ap (λ t. header ++ t)

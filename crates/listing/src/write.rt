@@ -30,7 +30,14 @@ pub(crate) fn write_refused(buffer: &mut [u8], refusal: u32) -> usize
 }
 
 // Writes a line of two numbers and the rows of a matrix.
-fn write_line(buffer: &mut [u8], first: u64, second: u64, matrix: &[u8], n: usize, k: usize) -> usize
+fn write_line(
+    buffer: &mut [u8],
+    first: u64,
+    second: u64,
+    matrix: &[u8],
+    n: usize,
+    k: usize,
+) -> usize
     requires { ⌜ DigitRows n k (now matrix) × (length (lineText first second n k (now matrix)) ≤ length (now buffer)) ⌝ }
     ensures { λ r. ⌜ (r ≡ length (lineText first second n k (now (matrix .entry))))
         × (now (buffer .exit) ≡ written (lineText first second n k (now (matrix .entry))) (now (buffer .entry))) ⌝ }

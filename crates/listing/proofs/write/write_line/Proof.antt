@@ -51,19 +51,19 @@ returns c =
     let room : length x + length y + length rows + 3 ≤ length start = omega (arith, s .pre .1) in
     let one = filled-put start [] x 0 start _ _ (filled-none start) (omega arith) (first .append-number .ensures .0) (first .append-number .ensures .2) in
     let two =
-        filled-put start x (comma ∷ []) _ _ _ _ one (omega arith) (second .append-byte .ensures .0) (second .append-byte .ensures .2) in
+    filled-put start x (comma ∷ []) _ _ _ _ one (omega arith) (second .append-byte .ensures .0) (second .append-byte .ensures .2) in
     let three =
-        filled-put start (x ++ (comma ∷ [])) y _ _ _ _ two (simp length-append (omega arith)) (third .append-number2 .ensures .0)
-        (third .append-number2 .ensures .2) in
+    filled-put start (x ++ (comma ∷ [])) y _ _ _ _ two (simp length-append (omega arith)) (third .append-number2 .ensures .0)
+    (third .append-number2 .ensures .2) in
     let four =
-        filled-put start (x ++ (comma ∷ []) ++ y) (comma ∷ []) _ _ _ _ three (simp length-append (omega arith)) (fourth .append-byte2 .ensures .0)
-        (fourth .append-byte2 .ensures .2) in
+    filled-put start (x ++ (comma ∷ []) ++ y) (comma ∷ []) _ _ _ _ three (simp length-append (omega arith)) (fourth .append-byte2 .ensures .0)
+    (fourth .append-byte2 .ensures .2) in
     let five =
-        filled-put start (x ++ (comma ∷ []) ++ y ++ (comma ∷ [])) rows _ _ _ _ four (simp length-append (omega arith)) (fifth .append-rows .ensures .0)
-        (fifth .append-rows .ensures .2) in
+    filled-put start (x ++ (comma ∷ []) ++ y ++ (comma ∷ [])) rows _ _ _ _ four (simp length-append (omega arith)) (fifth .append-rows .ensures .0)
+    (fifth .append-rows .ensures .2) in
     let six =
-        filled-put start (x ++ (comma ∷ []) ++ y ++ (comma ∷ []) ++ rows) (lineFeed ∷ []) _ _ _ _ five (simp length-append (omega arith))
-        (sixth .append-byte3 .ensures .0) (sixth .append-byte3 .ensures .2) in
+    filled-put start (x ++ (comma ∷ []) ++ y ++ (comma ∷ []) ++ rows) (lineFeed ∷ []) _ _ _ _ five (simp length-append (omega arith))
+    (sixth .append-byte3 .ensures .0) (sixth .append-byte3 .ensures .2) in
     let whole = line-pieces (a .first) (a .second) (a .n) (a .k) (a .matrix .now) in
     (six .place ∙ ap length whole, six .holds ∙ ap (λ t. written t start) whole)
 

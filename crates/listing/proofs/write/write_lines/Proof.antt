@@ -33,9 +33,11 @@ write-listing-line-requires : tie.Need-write-listing-line-requires Inv-loop μ-l
 write-listing-line-requires c κs =
     let l = c .before .before in
     let s = l .before .before in
-    let test = c .before .loop-test .taken in
-    (s .pre .0, omega (arith, s .pre .2, test),
-      filling-room _ _ _ _ _ _ _ _ _ (l .loop .inv) (s .pre .0) (s .pre .2) (s .pre .3) (s .pre .4) test .1)
+    let test = c .before .loop-test .taken in (
+      s .pre .0,
+      omega (arith, s .pre .2, test),
+      filling-room _ _ _ _ _ _ _ _ _ (l .loop .inv) (s .pre .0) (s .pre .2) (s .pre .3) (s .pre .4) test .1,
+    )
 
 add-at : tie.Need-add-at Inv-loop μ-loop
 add-at c =
@@ -44,9 +46,15 @@ add-at c =
     let s = l .before .before in
     let a = s .args in
     let test = w .before .before .loop-test .taken in
-    omega (arith,
-      filling-small _ _ _ _ _ _ _ _ _ (l .loop .inv) (s .pre .0) (s .pre .2) (s .pre .3) (s .pre .4), w .write-listing-line .ensures .0,
-      line-fits (a .q) (a .n) (a .k) (l .loop .index) (s .pre .0) (omega (arith, s .pre .2, test)), s .pre .3, l .loop .inv .above, test)
+    omega (
+      arith,
+      filling-small _ _ _ _ _ _ _ _ _ (l .loop .inv) (s .pre .0) (s .pre .2) (s .pre .3) (s .pre .4),
+      w .write-listing-line .ensures .0,
+      line-fits (a .q) (a .n) (a .k) (l .loop .index) (s .pre .0) (omega (arith, s .pre .2, test)),
+      s .pre .3,
+      l .loop .inv .above,
+      test,
+    )
 
 add-index : tie.Need-add-index Inv-loop μ-loop
 add-index c = omega arith

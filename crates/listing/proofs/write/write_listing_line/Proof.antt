@@ -89,9 +89,10 @@ unfolding zeros
 rank-requires c κs =
     let f = c .before .before in
     let s = f .before .before .before in
-    let a = s .args in
-    (s .pre .0 .settings,
-      subst (Reduced (a .q) (a .n) (a .k)) (sym (front f)) (drawn-is-reduced (a .q) (a .n) (a .k) (a .index) (s .pre .0 .settings) (s .pre .1)))
+    let a = s .args in (
+      s .pre .0 .settings,
+      subst (Reduced (a .q) (a .n) (a .k)) (sym (front f)) (drawn-is-reduced (a .q) (a .n) (a .k) (a .index) (s .pre .0 .settings) (s .pre .1)),
+    )
 
 array-share-prefix-entries-2 : tie.Need-array-share-prefix-entries-2
 unfolding zeros
@@ -107,9 +108,10 @@ write-line-requires c κs =
     let r = c .before .before in
     let f = r .before .before .before in
     let s = f .before .before .before in
-    let a = s .args in
-    (subst (DigitRows (a .n) (a .k)) (sym (front f)) (digit-rows (a .q) (a .n) (a .k) (a .index) (s .pre .0 .settings) (s .pre .1)),
-      omega (arith, ap length (line r), line-fits (a .q) (a .n) (a .k) (a .index) (s .pre .0) (s .pre .1), s .pre .2))
+    let a = s .args in (
+      subst (DigitRows (a .n) (a .k)) (sym (front f)) (digit-rows (a .q) (a .n) (a .k) (a .index) (s .pre .0 .settings) (s .pre .1)),
+      omega (arith, ap length (line r), line-fits (a .q) (a .n) (a .k) (a .index) (s .pre .0) (s .pre .1), s .pre .2),
+    )
 
 same-length : tie.Need-same-length
 same-length c = search needs

@@ -39,10 +39,10 @@ returns c =
     let short : length (numeral r) ≤ 10 = numeral-short 9 r (omega arith) in
     let word = filled-put start [] refusedWord 0 start _ _ (filled-none start) (omega arith) (first .append .ensures .0) (first .append .ensures .2) in
     let number =
-        filled-put start refusedWord (numeral r) _ _ _ _ word (omega arith) (second .append-number .ensures .0) (second .append-number .ensures .2) in
+    filled-put start refusedWord (numeral r) _ _ _ _ word (omega arith) (second .append-number .ensures .0) (second .append-number .ensures .2) in
     let f =
-        filled-put start (refusedWord ++ numeral r) (lineFeed ∷ []) _ _ _ _ number (simp length-append (omega arith)) (last .append-byte .ensures .0)
-        (last .append-byte .ensures .2) in
+    filled-put start (refusedWord ++ numeral r) (lineFeed ∷ []) _ _ _ _ number (simp length-append (omega arith)) (last .append-byte .ensures .0)
+    (last .append-byte .ensures .2) in
     (f .place, f .holds)
 
 pub write-refused-spec : {M : Type 1} → statement M
