@@ -138,3 +138,13 @@ chunks-are-the-output input =
     ∙ ap (λ s. chunks 1026 (begun input) ++ remaining s) (sym (finished (begun input)))
     ∙ chunks-remaining 1026 (begun input)
     ∙ begun-remaining input
+
+-- no step, and one step more
+pub after-none : (s : State) → s ≡ stateAfter 0 s
+unfolding stateAfter
+after-none s = refl
+
+pub after-next : (m : ℕ) (s : State) → stateAfter (suc m) s ≡ nextState (stateAfter m s)
+unfolding stateAfter
+after-next zero s = refl
+after-next (suc m) s = after-next m (nextState s)
