@@ -1,3 +1,3 @@
 // Text as bytes: decimal numerals, and a writer of pieces of text.
 pub mod append;
-pub mod rows;
+mod rows;

@@ -46,7 +46,7 @@ fn rows_text(matrix: &[u8], n: usize, k: usize) -> [u8; 271]
 }
 
 // Puts the rows in, as digits with a slash between two rows. Internal: the caller has tested the matrix.
-pub fn append_rows(buffer: &mut [u8], at: usize, matrix: &[u8], n: usize, k: usize) -> Put
+fn append_rows(buffer: &mut [u8], at: usize, matrix: &[u8], n: usize, k: usize) -> Put
     requires { ⌜ DigitRows n k (now matrix) ⌝ }
     ensures { λ r. ⌜ (r .at ≡ placeAfter (length (now (buffer .entry))) at (rowsText n k (now (matrix .entry))))
         × (r .fits ≡ fits (length (now (buffer .entry))) at (rowsText n k (now (matrix .entry))))
