@@ -5,3 +5,7 @@ pub mod AppendingLaws
 pub mod TextLaws
 pub mod Rows
 pub mod RowsLaws
+pub mod Shown
+pub mod Writing
+pub mod Line
+pub mod LineLaws

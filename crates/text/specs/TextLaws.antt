@@ -1,6 +1,7 @@
 -- Laws of numerals; no part of the meaning.
 --   numeral-digit == a number below ten is one digit
 --   numeral-step  == from ten on, the numeral is that of all digits but the last, and then the last
+--   numeral-length == a number below a power of ten has at most so many digits
 --   two-digits    == a number of at least ten that is below a power of ten: the power is at least the second
 --   below-before  == what is below a power of ten is, without its last digit, below the power before
 --   digit-put     == a digit stored before a list's tail stands between what came before and the tail
@@ -12,7 +13,7 @@ use mathlib.Core.Logic.{⊎-elim}
 use Prim.Native.Nat.{ℕ, zero, suc, _-_, _^_, _/_, _%_, _≤_, _<_}
 use native.Mathlib.Nat.{pow-suc, mod-eq-of-lt}
 use native.Mathlib.Omega.{arith}
-use lib.ListN.{length, drop, set}
+use lib.ListN.{length, drop, set, length-append}
 use lib.Seq.{lt-length-set, drop-cons, drop-set-lt, getD-set-same, append-snoc}
 use borrow.Author.Tests.{lt-ltb, le-ltb}
 use Rattle.basics.specs.Order.{le-or-lt}
@@ -49,6 +50,18 @@ numeral-step zero h = absurd (omega arith)
 numeral-step (suc more) h =
     step-within more (suc more) h
     ∙ ap (λ ds. ds ++ (glyph (suc more % 10) ∷ [])) (room-within more (suc more / 10) (suc more / 10) (omega arith) (omega arith))
+
+pub numeral-length : (more x : ℕ) → x < 10 ^ suc more → length (numeral x) ≤ suc more
+numeral-length zero x h = omega (arith, ap length (numeral-digit x (omega arith)))
+numeral-length (suc more) x h =
+    ⊎-elim
+    (λ l.
+      omega (
+        arith,
+        ap length (numeral-step x l) ∙ length-append (numeral (x / 10)) (glyph (x % 10) ∷ []),
+        numeral-length more (x / 10) (omega (arith, pow-suc 10 (suc more))),
+      ))
+    (λ l. omega (arith, ap length (numeral-digit x l))) (le-or-lt 10 x)
 
 pub two-digits : (x n : ℕ) → 10 ≤ x → x < 10 ^ n → 2 ≤ n
 two-digits x zero h l = absurd (omega arith)

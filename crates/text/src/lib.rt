@@ -1,3 +1,5 @@
 // Text as bytes: decimal numerals, and a writer of pieces of text.
 pub mod append;
-mod rows;
+pub mod line;
+pub mod rows;
+pub mod writer;

@@ -1,9 +1,11 @@
 // The rows of a matrix put into a buffer as text.
 ghost use mathlib.Core.Path.{_≡_};
 ghost use Prim.Native.Nat.{_+_, _-_, _*_, _<_, _≤_};
-ghost use lib.ListN.{length, take, getD};
+ghost use lib.ListN.{length, getD};
 ghost use Rattle.text.specs.Appending.{fits, placeAfter, bufferAfter};
 ghost use Rattle.text.specs.Rows.{DigitRows, rowsText};
+ghost use Rattle.text.specs.Shown.{shown};
+use crate::append;
 use crate::append::Put;
 
 // How many bytes the text of k rows of n digits has.
@@ -25,34 +27,42 @@ fn rows_byte(matrix: &[u8], n: usize, k: usize, place: usize) -> u8
     let row = place / (n + 1);
     let column = place % (n + 1);
     if column == n {
-        return b'/';
+        return append::SLASH;
     }
     48 + matrix[row * n + column]
 }
 
-// The rows' text, in an array that has room for 16 rows of 16 digits.
-fn rows_text(matrix: &[u8], n: usize, k: usize) -> [u8; 271]
-    requires { ⌜ DigitRows n k (now matrix) ⌝ }
-    ensures { λ r. ⌜ take (k * n + (k - 1)) r ≡ rowsText n k (now (matrix .entry)) ⌝ }
-{
-    let size = rows_size(n, k);
-    let mut text = [0u8; 271];
-    let mut place = 0;
-    while place < size {
-        text[place] = rows_byte(matrix, n, k, place);
-        place += 1;
-    }
-    text
+// The text of rows: the first `size` of the bytes. There is room for 16 rows of 16 digits.
+pub struct Rows {
+    pub bytes: [u8; 271],
+    pub size: usize,
 }
 
-// Puts the rows in, as digits with a slash between two rows. Internal: the caller has tested the matrix.
-fn append_rows(buffer: &mut [u8], at: usize, matrix: &[u8], n: usize, k: usize) -> Put
+// The rows of a matrix as text. Internal: the caller has tested the matrix.
+pub(crate) fn rows_text(matrix: &[u8], n: usize, k: usize) -> Rows
     requires { ⌜ DigitRows n k (now matrix) ⌝ }
-    ensures { λ r. ⌜ (r .at ≡ placeAfter (length (now (buffer .entry))) at (rowsText n k (now (matrix .entry))))
-        × (r .fits ≡ fits (length (now (buffer .entry))) at (rowsText n k (now (matrix .entry))))
-        × (now (buffer .exit) ≡ bufferAfter (now (buffer .entry)) at (rowsText n k (now (matrix .entry)))) ⌝ }
+    ensures { λ r. ⌜ shown r ≡ rowsText n k (now (matrix .entry)) ⌝ }
 {
     let size = rows_size(n, k);
-    let text = rows_text(matrix, n, k);
-    crate::append::append(buffer, at, &text[..size])
+    let mut bytes = [0u8; 271];
+    let mut place = 0;
+    while place < size {
+        bytes[place] = rows_byte(matrix, n, k, place);
+        place += 1;
+    }
+    Rows { bytes, size }
+}
+
+// Puts the text of rows in.
+pub fn append_rows(buffer: &mut [u8], at: usize, rows: Rows) -> Put
+    ensures { λ r. ⌜ (r .at ≡ placeAfter (length (now (buffer .entry))) at (shown rows))
+        × (r .fits ≡ fits (length (now (buffer .entry))) at (shown rows))
+        × (now (buffer .exit) ≡ bufferAfter (now (buffer .entry)) at (shown rows)) ⌝ }
+{
+    let bytes = rows.bytes;
+    let size = rows.size;
+    if size < 271 {
+        return append::append(buffer, at, &bytes[..size]);
+    }
+    append::append(buffer, at, &bytes)
 }

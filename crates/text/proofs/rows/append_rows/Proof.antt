@@ -1,30 +1,25 @@
--- `text::rows::append_rows` meets its contract: the part of the array that is put in is the rows' text.
+-- `text::rows::append_rows` meets its contract: the part of the bytes that is put in is what is shown.
 use mathlib.Core.Path.{_≡_, ap, _∙_, sym}
 use native.Mathlib.Omega.{arith}
 use borrow.Author.Needs.{needs}
-use lib.ListN.{length, take}
-use lib.Seq.{length-take-le}
+use lib.ListN.{length}
+use lib.Seq.{length-take-le, take-all}
 use Rattle.text.specs.Appending.{fits, placeAfter, bufferAfter}
-use Rattle.text.specs.Rows.{rowsText}
+use Rattle.text.specs.Shown.{shown}
 use Rattle.text.proofs.rows.append_rows.Statement.{statement}
 use Rattle.text.proofs.rows.append_rows.Tie as tie
 
-rows-size-requires : tie.Need-rows-size-requires
-rows-size-requires c κs = search needs
-
-rows-text-requires : tie.Need-rows-text-requires
-rows-text-requires c κs = search needs
-
-array-share-prefix-text : tie.Need-array-share-prefix-text
-array-share-prefix-text c =
-    let l : length (c .before .rows-text .result) ≡ 271 = search needs in
+array-share-prefix-bytes : tie.Need-array-share-prefix-bytes
+array-share-prefix-bytes c =
+    let rows = c .before .before .before .before .args .rows in
+    let l : length (rows .bytes) ≡ 271 = search needs in
     omega arith
 
 slice-aggregate-append : tie.Need-slice-aggregate-append
 slice-aggregate-append c =
-    let t = c .before .before in
-    let l : length (t .rows-text .result) ≡ 271 = search needs in
-    sym (length-take-le (t .before .rows-size .result) (t .rows-text .result) (omega arith))
+    let rows = c .before .before .before .before .before .args .rows in
+    let l : length (rows .bytes) ≡ 271 = search needs in
+    sym (length-take-le (rows .size) (rows .bytes) (omega arith))
 
 append-requires : tie.Need-append-requires
 append-requires c κs = search needs
@@ -33,12 +28,23 @@ same-length : tie.Need-same-length
 same-length c = search needs
 
 returns : tie.Need-returns
-returns c =
-    let p = c .before .before .append .ensures in
-    let t = c .before .before .before .before .before in
-    let a = t .before .before .before .before .args in
-    let e : take (t .before .rows-size .result) (t .rows-text .result) ≡ rowsText (a .n) (a .k) (a .matrix .now) =
-    ap (λ i. take i (t .rows-text .result)) (t .before .rows-size .ensures .0) ∙ t .rows-text .ensures in (
+returns c = search needs
+
+slice-aggregate-append-2 : tie.Need-slice-aggregate-append-2
+slice-aggregate-append-2 c = search needs
+
+append-requires-2 : tie.Need-append-requires-2
+append-requires-2 c κs = search needs
+
+same-length-2 : tie.Need-same-length-2
+same-length-2 c = search needs
+
+returns-2 : tie.Need-returns-2
+returns-2 c =
+    let p = c .before .before .append2 .ensures in
+    let a = c .before .before .before .before .before .before .before .before .args in
+    let l : length (a .rows .bytes) ≡ 271 = search needs in
+    let e : a .rows .bytes ≡ shown (a .rows) = sym (take-all (a .rows .size) (a .rows .bytes) (omega arith)) in (
       p .0 ∙ ap (placeAfter (length (a .buffer .now)) (a .at)) e,
       p .1 ∙ ap (fits (length (a .buffer .now)) (a .at)) e,
       p .2 ∙ ap (bufferAfter (a .buffer .now) (a .at)) e,
@@ -48,10 +54,12 @@ pub append-rows-spec : {M : Type 1} → statement M
 append-rows-spec =
     tie.close
     (tie.spec
-    rows-size-requires
-    rows-text-requires
-    array-share-prefix-text
+    array-share-prefix-bytes
     slice-aggregate-append
     append-requires
     same-length
-    returns)
+    returns
+    slice-aggregate-append-2
+    append-requires-2
+    same-length-2
+    returns-2)

@@ -11,10 +11,10 @@ use Rattle.text.proofs.rows.rows_text.Statement.{statement}
 use Rattle.text.proofs.rows.rows_text.Tie as tie
 
 abbrev Inv-loop : tie.InvT-loop
-Inv-loop matrix n k size text₀ place₀ text place = (place ≤ size) × (length text ≡ 271) × (take place text ≡ take place (rowsText n k matrix))
+Inv-loop matrix n k size bytes₀ place₀ bytes place = (place ≤ size) × (length bytes ≡ 271) × (take place bytes ≡ take place (rowsText n k matrix))
 
 abbrev μ-loop : tie.MeasureT-loop
-μ-loop matrix n k size text₀ place₀ text place = size - place
+μ-loop matrix n k size bytes₀ place₀ bytes place = size - place
 
 rows-size-requires : tie.Need-rows-size-requires Inv-loop μ-loop
 rows-size-requires c κs = search needs
@@ -25,8 +25,8 @@ loop-holds c = (omega arith, refl, refl)
 rows-byte-requires : tie.Need-rows-byte-requires Inv-loop μ-loop
 rows-byte-requires c κs = search needs
 
-array-write-text : tie.Need-array-write-text Inv-loop μ-loop
-array-write-text c = omega arith
+array-write-bytes : tie.Need-array-write-bytes Inv-loop μ-loop
+array-write-bytes c = omega arith
 
 add-place : tie.Need-add-place Inv-loop μ-loop
 add-place c = omega arith
@@ -40,7 +40,7 @@ loop-again c =
     let a = l .before .before .before .args in (
       omega arith,
       simp length-set (l .loop .inv .1),
-      taken-more (l .loop .text) (rowsText (a .n) (a .k) (a .matrix .now)) (l .loop .place) (c .rows-byte .result) (omega arith)
+      taken-more (l .loop .bytes) (rowsText (a .n) (a .k) (a .matrix .now)) (l .loop .place) (c .rows-byte .result) (omega arith)
           (omega (arith, rowsText-length (a .n) (a .matrix .now) (a .k))) (l .loop .inv .2) (c .rows-byte .ensures),
     )
 
@@ -50,9 +50,9 @@ returns c =
     let s = l .before in
     let a = s .before .before .args in
     let text = rowsText (a .n) (a .k) (a .matrix .now) in
-    let size : a .k * a .n + (a .k - 1) ≡ length text = sym (rowsText-length (a .n) (a .matrix .now) (a .k)) in
-    let e : l .loop .place ≡ a .k * a .n + (a .k - 1) = omega arith in
-    ap (λ i. take i (l .loop .text)) (sym e) ∙ l .loop .inv .2 ∙ ap (λ i. take i text) (e ∙ size) ∙ take-length text
+    let e : l .loop .place ≡ s .rows-size .result = omega arith in
+    ap (λ i. take i (l .loop .bytes)) (sym e) ∙ l .loop .inv .2
+    ∙ ap (λ i. take i text) (e ∙ s .rows-size .ensures .0 ∙ sym (rowsText-length (a .n) (a .matrix .now) (a .k))) ∙ take-length text
 
 pub rows-text-spec : {M : Type 1} → statement M
 rows-text-spec =
@@ -63,7 +63,7 @@ rows-text-spec =
     rows-size-requires
     loop-holds
     rows-byte-requires
-    array-write-text
+    array-write-bytes
     add-place
     loop-less
     loop-again
