@@ -3,19 +3,19 @@
 --   lines-short     == m lines have at most 276 m bytes
 --   filling-start, -more, -end == it holds at the start and after one more line, and what it tells at the end
 --   filling-small, -length == how far the buffer is filled at most, and that it keeps its length
---   filling-lent, -room    == the next line has 320 bytes of room
+--   filling-room    == 320 bytes are there for the next line
 -- Assumes nothing.
 use mathlib.Core.Path.{_≡_, refl, ap, ap₂, _∙_, sym}
-use mathlib.Core.List.{List, [], _++_, append-nil}
+use mathlib.Core.List.{List, [], _++_}
 use Prim.Native.Nat.{ℕ, zero, suc, _+_, _*_, _-_, _≤_, _<_}
 use native.Mathlib.Omega.{arith}
-use lib.ListN.{length, take, drop, length-append, length-drop, drop-of-length-le}
-use lib.Seq.{take-at, take-all, drop-at}
+use lib.ListN.{length, take, drop, length-append, length-drop}
+use lib.Seq.{take-at, drop-at, length-take-le}
 use Rattle.gaussian.specs.Gaussian.{gaussian}
 use Rattle.listing.specs.Listing.{listingLine, linesFrom}
 use Rattle.listing.specs.ListingLaws.{Listable, lines-more}
 use Rattle.listing.specs.LineFits.{line-fits}
-use Rattle.listing.specs.Pieces.{written, written-length, written-more}
+use Rattle.listing.specs.Pieces.{written, written-length, written-more, written-part}
 
 pub record Filling (q n k from to : ℕ) (start buffer : List ℕ) (at index : ℕ) : Type 0 where
   pub above : from ≤ index
@@ -57,44 +57,40 @@ module _ (q n k from to : ℕ) (start buffer : List ℕ) (at index : ℕ) (f : F
       let place = f .place in
       ap length (f .holds) ∙ written-length start (linesFrom q n k from (index - from)) (omega (arith, filling-small))
 
-  -- all that lies from the place on is lent to the next line
-  pub filling-lent : take (length buffer - at) (drop at buffer) ≡ drop at buffer
-  filling-lent = take-all (length buffer - at) (drop at buffer) (omega (arith, length-drop at buffer))
+  -- w bytes, which are 320, are lent to the next line
+  module _ (w : ℕ) (lent : w ≡ 320) (more : index < to) where
+    pub filling-room : (at + 320 ≤ length buffer) × (length (take w (drop at buffer)) ≡ 320)
+    filling-room =
+        let above : from ≤ index = f .above in
+        let size = filling-length in
+        let far = filling-small in
+        let room-left : at + 320 ≤ length buffer = omega arith in
+        (room-left, length-take-le w (drop at buffer) (omega (arith, length-drop at buffer)) ∙ lent)
 
-  pub filling-room : index < to → (at ≤ length buffer) × (320 ≤ length (take (length buffer - at) (drop at buffer)))
-  filling-room h =
-      let above : from ≤ index = f .above in
-      let size = filling-length in
-      let far = filling-small in
-      (omega arith, rw (filling-lent, length-drop at buffer) (omega arith))
-
-  -- the next line is written to what was lent
-  pub filling-more : (size : ℕ) (part : List ℕ) → index < to → size ≡ length (listingLine q n k index)
-      → part ≡ written (listingLine q n k index) (take (length buffer - at) (drop at buffer))
-      → Filling q n k from to start (take at buffer ++ (part ++ drop (length buffer - at) (drop at buffer))) (at + size) (index + 1)
-  filling-more size part h e b =
-      let line = listingLine q n k index in
-      let lines = linesFrom q n k from (index - from) in
-      let above : from ≤ index = f .above in
-      let count : index + 1 - from ≡ index - from + 1 = omega arith in
-      let next : from + (index - from) ≡ index = omega arith in
-      let more : linesFrom q n k from (index + 1 - from) ≡ lines ++ line =
-      ap (linesFrom q n k from) count ∙ lines-more q n k from (index - from) ∙ ap (λ i. lines ++ listingLine q n k i) next in
-      let front : take at buffer ≡ lines = ap (take at) (f .holds) ∙ take-at lines (drop (length lines) start) at (sym (f .place)) in
-      let rest : drop at buffer ≡ drop (length lines) start = ap (drop at) (f .holds) ∙ drop-at lines (drop (length lines) start) at (sym (f .place)) in
-      let past : length (drop at buffer) ≤ length buffer - at = omega (arith, length-drop at buffer) in
-      let nothing : drop (length buffer - at) (drop at buffer) ≡ [] = drop-of-length-le (drop at buffer) past in
-      let one-more : index + 1 ≤ to = omega (arith, h) in
-      record {
-        above = omega arith;
-        below = one-more;
-        place = ap₂ _+_ (f .place) e ∙ sym (length-append lines line) ∙ ap length (sym more);
-        holds =
-            ap₂ (λ x y. take at buffer ++ (x ++ y)) (b ∙ ap (written line) (filling-lent ∙ rest)) nothing
-            ∙ ap₂ _++_ front (append-nil (written line (drop (length lines) start)))
-            ∙ written-more start lines line
-            ∙ ap (λ t. written t start) (sym more);
-      }
+    pub filling-more : (size : ℕ) (part : List ℕ) → size ≡ length (listingLine q n k index)
+        → part ≡ written (listingLine q n k index) (take w (drop at buffer))
+        → Filling q n k from to start (take at buffer ++ (part ++ drop w (drop at buffer))) (at + size) (index + 1)
+    filling-more size part e b =
+        let line = listingLine q n k index in
+        let lines = linesFrom q n k from (index - from) in
+        let above : from ≤ index = f .above in
+        let count : index + 1 - from ≡ index - from + 1 = omega arith in
+        let next : from + (index - from) ≡ index = omega arith in
+        let further : linesFrom q n k from (index + 1 - from) ≡ lines ++ line =
+        ap (linesFrom q n k from) count ∙ lines-more q n k from (index - from) ∙ ap (λ i. lines ++ listingLine q n k i) next in
+        let front : take at buffer ≡ lines = ap (take at) (f .holds) ∙ take-at lines (drop (length lines) start) at (sym (f .place)) in
+        let rest : drop at buffer ≡ drop (length lines) start = ap (drop at) (f .holds) ∙ drop-at lines (drop (length lines) start) at (sym (f .place)) in
+        let short : length line ≤ length (take w (drop at buffer)) = omega (arith, line-fits q n k index l (omega arith), filling-room .1) in
+        record {
+          above = omega arith;
+          below = omega (arith, more);
+          place = ap₂ _+_ (f .place) e ∙ sym (length-append lines line) ∙ ap length (sym further);
+          holds =
+              ap₂ (λ x y. x ++ (y ++ drop w (drop at buffer))) front b
+              ∙ ap (λ t. lines ++ t) (written-part (drop at buffer) line w short ∙ ap (written line) rest)
+              ∙ written-more start lines line
+              ∙ ap (λ t. written t start) (sym further);
+        }
 
 pub filling-end : (q n k from to : ℕ) (start buffer : List ℕ) (at index : ℕ) → Filling q n k from to start buffer at index → to ≤ index
     → (at ≡ length (linesFrom q n k from (to - from))) × (buffer ≡ written (linesFrom q n k from (to - from)) start)

@@ -18,8 +18,9 @@ use Rattle.gaussian.specs.Gaussian.{gaussian}
 use Rattle.gaussian.specs.Settings.{settingsRefusal}
 use Rattle.extended.specs.Ranked.{drawnExtended}
 use Rattle.ferrers.specs.Ferrers.{ferrersIndex}
-use Rattle.text.specs.Text.{comma, lineFeed, numeral}
+use Rattle.text.specs.Text.{lineFeed, numeral}
 use Rattle.text.specs.Rows.{rowsText}
+use Rattle.text.specs.Line.{lineText}
 use Rattle.settings_line.specs.SettingsLine.{parsed}
 use Rattle.settings_line.specs.declared.Parsed.{Parsed}
 use Rattle.settings_line.specs.declared.Parsed.the-variants.{Settings as settings, Malformed}
@@ -30,11 +31,8 @@ greatestListing = 65536
 unfoldable pub listRefusal : ℕ → ℕ → ℕ → ℕ
 listRefusal q n k = first (settingsRefusal q n k ∷ refuseUnless (leb (gaussian q n k) greatestListing) listingRefusal ∷ [])
 
-unfoldable pub lineText : ℕ → ℕ → ℕ → ℕ → List ℕ → List ℕ
-lineText a b n k m = numeral a ++ (comma ∷ numeral b ++ (comma ∷ rowsText n k m ++ (lineFeed ∷ [])))
-
 unfoldable pub listingLine : ℕ → ℕ → ℕ → ℕ → List ℕ
-listingLine q n k i = lineText i (ferrersIndex q n k (drawnExtended q n k i)) n k (drawnExtended q n k i)
+listingLine q n k i = lineText i (ferrersIndex q n k (drawnExtended q n k i)) (rowsText n k (drawnExtended q n k i))
 
 unfoldable pub linesFrom : ℕ → ℕ → ℕ → ℕ → ℕ → List ℕ
 linesFrom q n k i zero = []

@@ -20,7 +20,11 @@ use Rattle.refusal.specs.RefusalLaws.{first-zero, test-zero}
 use Rattle.gaussian.specs.Gaussian.{gaussian}
 use Rattle.gaussian.specs.Settings.{settingsRefusal, Accepted}
 use Rattle.gaussian.specs.SettingsLaws.{accepted}
-use Rattle.listing.specs.Listing.{greatestListing, listRefusal, lineText, listingLine, linesFrom}
+use Rattle.extended.specs.Ranked.{drawnExtended}
+use Rattle.ferrers.specs.Ferrers.{ferrersIndex}
+use Rattle.text.specs.Rows.{rowsText}
+use Rattle.text.specs.LineLaws.{lineText-length}
+use Rattle.listing.specs.Listing.{greatestListing, listRefusal, listingLine, linesFrom}
 
 pub record Listable (q n k : ℕ) : Type 0 where
   pub settings : Accepted q n k
@@ -63,5 +67,6 @@ module _ (q n k : ℕ) where
   lines-more i m = lines-append i m 1 ∙ ap (λ t. linesFrom q n k i m ++ t) (append-nil (listingLine q n k (i + m)))
 
   pub line-nonempty : (i : ℕ) → 1 ≤ length (listingLine q n k i)
-  unfolding listingLine lineText
-  line-nonempty i = simp length-append (omega arith)
+  unfolding listingLine
+  line-nonempty i =
+      omega (arith, lineText-length i (ferrersIndex q n k (drawnExtended q n k i)) (rowsText n k (drawnExtended q n k i)))

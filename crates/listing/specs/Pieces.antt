@@ -1,22 +1,20 @@
 -- Pieces written one after the other to the front of a buffer.
 --   written piece buffer   == the buffer with the piece at its front, and the rest as it was
+--   pasted                 == a piece pasted at the front
+--   written-more, -part    == a further piece behind, and a piece written to the first bytes of what is left
 --   Filled start s at b    == the buffer b, which was `start`, is filled up to the place `at` with s
 --   filled-none, filled-more == it holds before the first piece and after a piece that has room
 -- Assumes nothing.
 use mathlib.Core.Path.{_≡_, refl, ap, ap₂, _∙_, sym}
-use mathlib.Core.Bool.{true, _&&_}
-use mathlib.Core.List.{List, [], _∷_, _++_, append-assoc}
+use mathlib.Core.Bool.{true}
+use mathlib.Core.List.{List, [], _++_, append-assoc}
 use Prim.Native.Nat.{ℕ, _+_, _-_, _≤_}
+use native.Mathlib.Nat.{zero-add}
 use native.Mathlib.Omega.{arith}
-use borrow.Author.Tests.{le-leb}
-use lib.Dec.{leb}
-use lib.ListN.{length, take, drop, length-append, length-drop}
-use lib.Seq.{paste, take-at, take-length, drop-drop, drop-append-add}
-use Rattle.text.specs.Text.{comma, lineFeed, numeral}
-use Rattle.text.specs.Rows.{rowsText}
+use lib.ListN.{length, take, drop, length-append, length-drop, take-append-drop}
+use lib.Seq.{paste, take-at, take-length, drop-drop, drop-append-add, drop-append-le}
 use Rattle.text.specs.Appending.{fits, placeAfter, bufferAfter}
-use Rattle.text.specs.AppendingLaws.{fitted}
-use Rattle.listing.specs.Listing.{lineText}
+use Rattle.text.specs.AppendingLaws.{fitted, room-fits}
 
 abbrev pub written : List ℕ → List ℕ → List ℕ
 written piece buffer = piece ++ drop (length piece) buffer
@@ -42,8 +40,7 @@ pub filled-more : (start s piece : List ℕ) (at : ℕ) (buffer : List ℕ) → 
 filled-more start s piece at buffer f room =
     let place : at ≡ length s = f .place in
     let size : length buffer ≡ length start = ap length (f .holds) ∙ written-length start s (omega arith) in
-    let room-left : fits (length buffer) at piece ≡ true =
-    ap₂ _&&_ (le-leb at (length buffer) (omega arith)) (le-leb (length piece) (length buffer - at) (omega arith)) in
+    let room-left : fits (length buffer) at piece ≡ true = room-fits (length buffer) at piece (omega arith) in
     let fit = fitted buffer at piece room-left in
     let front : take at buffer ≡ s = ap (take at) (f .holds) ∙ take-at s (drop (length s) start) at (sym place) in
     let rest : drop (at + length piece) buffer ≡ drop (length piece) (drop (length s) start) =
@@ -66,13 +63,12 @@ filled-put start s piece at buffer next after f room e b =
     let more = filled-more start s piece at buffer f room in
     record { place = e ∙ more .place; holds = b ∙ more .holds }
 
--- a line by its six pieces, and its length
-pub line-pieces : (a b n k : ℕ) (m : List ℕ)
-    → numeral a ++ (comma ∷ []) ++ numeral b ++ (comma ∷ []) ++ rowsText n k m ++ (lineFeed ∷ []) ≡ lineText a b n k m
-unfolding lineText
-line-pieces a b n k m = simp append-assoc
+-- a piece pasted at the front
+pub pasted : (buffer piece : List ℕ) → paste buffer 0 piece (length piece) ≡ written piece buffer
+pasted buffer piece = ap₂ (λ p i. p ++ drop i buffer) (take-length piece) (zero-add (length piece))
 
-pub line-size : (a b n k : ℕ) (m : List ℕ)
-    → length (lineText a b n k m) ≡ length (numeral a) + length (numeral b) + length (rowsText n k m) + 3
-unfolding lineText
-line-size a b n k m = simp length-append (omega arith)
+-- a piece written to the first w bytes of what is left
+pub written-part : (rest piece : List ℕ) (w : ℕ) → length piece ≤ length (take w rest) → written piece (take w rest) ++ drop w rest ≡ written piece rest
+written-part rest piece w h =
+    append-assoc piece (drop (length piece) (take w rest)) (drop w rest)
+    ∙ ap (λ t. piece ++ t) (sym (drop-append-le (length piece) (take w rest) (drop w rest) h) ∙ ap (drop (length piece)) (take-append-drop w rest))

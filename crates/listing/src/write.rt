@@ -3,8 +3,7 @@ ghost use mathlib.Core.Path.{_≡_};
 ghost use Prim.Native.Nat.{_+_, _-_, _*_, _≤_, _<_};
 ghost use lib.ListN.{length};
 ghost use Rattle.gaussian.specs.Gaussian.{gaussian};
-ghost use Rattle.text.specs.Rows.{DigitRows};
-ghost use Rattle.listing.specs.Listing.{header, refusedLine, lineText, listingLine, linesFrom};
+ghost use Rattle.listing.specs.Listing.{header, refusedLine, listingLine, linesFrom};
 ghost use Rattle.listing.specs.ListingLaws.{Listable};
 ghost use Rattle.listing.specs.Pieces.{written};
 use extended::ExtendedIndex;
@@ -29,28 +28,6 @@ pub(crate) fn write_refused(buffer: &mut [u8], refusal: u32) -> usize
     end.at
 }
 
-// Writes a line of two numbers and the rows of a matrix.
-fn write_line(
-    buffer: &mut [u8],
-    first: u64,
-    second: u64,
-    matrix: &[u8],
-    n: usize,
-    k: usize,
-) -> usize
-    requires { ⌜ DigitRows n k (now matrix) × (length (lineText first second n k (now matrix)) ≤ length (now buffer)) ⌝ }
-    ensures { λ r. ⌜ (r ≡ length (lineText first second n k (now (matrix .entry))))
-        × (now (buffer .exit) ≡ written (lineText first second n k (now (matrix .entry))) (now (buffer .entry))) ⌝ }
-{
-    let a = text::append::append_number(buffer, 0, first);
-    let b = text::append::append_byte(buffer, a.at, b',');
-    let c = text::append::append_number(buffer, b.at, second);
-    let d = text::append::append_byte(buffer, c.at, b',');
-    let e = text::rows::append_rows(buffer, d.at, matrix, n, k);
-    let f = text::append::append_byte(buffer, e.at, b'\n');
-    f.at
-}
-
 // Writes the line of the space with the given extended index.
 fn write_listing_line(buffer: &mut [u8], q: u64, n: u64, k: u64, index: u64) -> usize
     requires { ⌜ Listable q n k × (index < gaussian q n k) × (320 ≤ length (now buffer)) ⌝ }
@@ -66,7 +43,7 @@ fn write_listing_line(buffer: &mut [u8], q: u64, n: u64, k: u64, index: u64) -> 
         ExtendedIndex(index),
     );
     let ferrers = ferrers::rank(&entries[..size], q, n as usize, k as usize);
-    write_line(
+    text::line::write_line(
         buffer,
         index,
         ferrers.0,
@@ -76,7 +53,7 @@ fn write_listing_line(buffer: &mut [u8], q: u64, n: u64, k: u64, index: u64) -> 
     )
 }
 
-// Writes the lines of the extended indexes from `from` up to `to`, at most 64.
+// Writes the lines of the extended indexes from `from` up to `to`, at most 64. Each line is lent 320 bytes.
 pub(crate) fn write_lines(buffer: &mut [u8], q: u64, n: u64, k: u64, from: u64, to: u64) -> usize
     requires { ⌜ Listable q n k × (from ≤ to) × (to ≤ gaussian q n k) × (to - from ≤ 64) × (20480 ≤ length (now buffer)) ⌝ }
     ensures { λ r. ⌜ (r ≡ length (linesFrom q n k from (to - from)))
@@ -85,7 +62,8 @@ pub(crate) fn write_lines(buffer: &mut [u8], q: u64, n: u64, k: u64, from: u64, 
     let mut at = 0;
     let mut index = from;
     while index < to {
-        at += write_listing_line(&mut buffer[at..], q, n, k, index);
+        let end = at + 320;
+        at += write_listing_line(&mut buffer[at..end], q, n, k, index);
         index += 1;
     }
     at

@@ -17,8 +17,8 @@ use lib.Seq.{take-all, drop-length, length-take-le}
 use Rattle.basics.specs.Choice.{pick}
 use Rattle.basics.specs.Order.{le-or-lt}
 use Rattle.text.specs.Text.{comma, lineFeed, numeral}
+use Rattle.text.specs.TextLaws.{numeral-length}
 use Rattle.settings_line.specs.Decimal.{isDigit, fieldAt}
-use Rattle.settings_line.specs.NumeralLaws.{numeral-short}
 use Rattle.settings_line.specs.Field.{field-is, Reads, field-reads}
 use Rattle.settings_line.specs.ParseLaws.{parsed-settings}
 use Rattle.settings_line.specs.SettingsLine.{settingsLine, IsSettingsLine, after, parsed}
@@ -106,9 +106,9 @@ parsed-exactly s =
 pub settings-line-short : (q n k : ℕ) → q < 1000 → n < 1000 → k < 1000 → length (settingsLine q n k) ≤ 12
 unfolding settingsLine
 settings-line-short q n k h i j =
-    let a : length (numeral q) ≤ 3 = numeral-short 2 q h in
-    let b : length (numeral n) ≤ 3 = numeral-short 2 n i in
-    let c : length (numeral k) ≤ 3 = numeral-short 2 k j in
+    let a : length (numeral q) ≤ 3 = numeral-length 2 q h in
+    let b : length (numeral n) ≤ 3 = numeral-length 2 n i in
+    let c : length (numeral k) ≤ 3 = numeral-length 2 k j in
     simp length-append (omega arith)
 
 line-short : (s : List ℕ) (x : Settings) → IsSettingsLine s x → length s ≤ 12

@@ -18,8 +18,9 @@ use lib.Seq.{drop-drop, drop-cons, drop-append-add, drop-append-seam, getD-appen
 use Rattle.basics.specs.Choice.{pick, holds, is-true}
 use Rattle.basics.specs.Test.{and-left, and-right}
 use Rattle.text.specs.Text.{numeral}
+use Rattle.text.specs.TextLaws.{numeral-length}
 use Rattle.settings_line.specs.Decimal.{isDigit, digitRun, reading, isNumeral, greatest, readIf, decimalAt, marked, fieldAt}
-use Rattle.settings_line.specs.NumeralLaws.{DigitBytes, none, more, numeral-digits, numeral-nonempty, numeral-first, numeral-short, numeral-reading, reading-numeral, reading-below}
+use Rattle.settings_line.specs.NumeralLaws.{DigitBytes, none, more, numeral-digits, numeral-nonempty, numeral-first, numeral-reading, reading-numeral, reading-below}
 use Rattle.settings_line.specs.Reading.{digit-bounds}
 use Rattle.settings_line.specs.DecimalLaws.{numeral-single, numeral-led, read-number, field-marked}
 use Rattle.settings_line.specs.declared.decimal.Numeral.{Numeral}
@@ -94,7 +95,7 @@ numerals most s e =
 
 numeral-is : (m x : ℕ) → x < 10 ^ suc m → isNumeral (suc m) (numeral x) ≡ true
 numeral-is m x h =
-    let short = numeral-short m x h in
+    let short = numeral-length m x h in
     ⊎-elim (λ one. numeral-single (suc m) (numeral x) one short) (λ led. numeral-led (suc m) (numeral x) (numeral-nonempty x) short led)
     (numeral-first x)
 

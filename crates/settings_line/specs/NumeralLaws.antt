@@ -123,16 +123,6 @@ numeral-first x =
     ⊎-elim (λ some. inr (first-within x x (le-refl x) some))
     (λ none. let z : x ≡ 0 = omega arith in inl (ap length (ap numeral z ∙ numeral-digit 0 (omega arith)))) (le-or-lt 1 x)
 
-pub numeral-short : (m x : ℕ) → x < 10 ^ suc m → length (numeral x) ≤ suc m
-numeral-short zero x h = rw (numeral-digit x h) (le-refl 1)
-numeral-short (suc m) x h =
-    ⊎-elim
-    (λ large.
-    let wide : x < 10 ^ suc m * 10 = rw (pow-suc 10 (suc m)) at h in
-    let rest = numeral-short m (x / 10) (omega arith) in
-    rw (numeral-step x large, length-append) (omega (arith, rest)))
-    (λ small. rw (numeral-digit x small) (omega arith)) (le-or-lt 10 x)
-
 -- behind v, so many digits make less than v + 1 followed by as many zeros
 reading-bound : (v : ℕ) {s : List ℕ} → DigitBytes s → reading v s < suc v * 10 ^ length s
 unfolding reading

@@ -133,7 +133,7 @@ module _ {M : Type 1} (𝓤 : URA M) (H : Heap 𝓤) (A : Atoms 𝓤) (W : Given
         → K → FmC 𝓤 H (W .laws) C → Triple 𝓤 (C f) Callee
         → ((ν : ℕ) (γ : GName) → Opds K W (raw (Callee .pre (to ν γ)) ∷ raw (Kept ν γ) ∷ Γ) E xs (vptr l 0 ∷ val v ∷ []))
         → ((u : Val) → u ≡ vbool (fits (length (h .buffer .now)) (h .at) (piece v))
-          → Seq K W (‵ (fat fullShare (T′.mir erased) l 0 (T′.lowered h′)) ∷ ‵ (R .own h′ (T′.lowered h′ ∷ [])) ∷ ‵ (flft κ q) ∷ Γ) (lands C Λ E d u rest p))
+        → Seq K W (‵ (fat fullShare (T′.mir erased) l 0 (T′.lowered h′)) ∷ ‵ (R .own h′ (T′.lowered h′ ∷ [])) ∷ ‵ (flft κ q) ∷ Γ) (lands C Λ E d u rest p))
         → Seq K W (‵ (fat fullShare (T′.mir erased) l 0 (T′.lowered h)) ∷ ‵ (R .own h (T′.lowered h ∷ [])) ∷ ‵ (flft κ q) ∷ Γ) (runs C Λ E (seq (call f xs d) rest) p)
     calls-lent t fm known os k =
         use3 W (later (some (λ (ν : ℕ). some (λ (γ : GName). raw (Callee .pre (to ν γ)) ⊛ raw (Kept ν γ))))) lend $ await t tt $ pick t (λ ν. pick t (λ γ. split t $

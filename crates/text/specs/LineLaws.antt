@@ -36,8 +36,8 @@ paste-paste b at p c h =
     ap₂ (λ x y. x ++ take (length c) c ++ y)
     (take-paste b at p (length p) (omega arith) (le-refl (length p)))
     (sym (drop-drop (length c) (at + length p) (paste b at p (length p)))
-      ∙ ap (drop (length c)) (drop-paste b at p (length p) (omega arith) (le-refl (length p)))
-      ∙ drop-drop (length c) (at + length p) b)
+    ∙ ap (drop (length c)) (drop-paste b at p (length p) (omega arith) (le-refl (length p)))
+    ∙ drop-drop (length c) (at + length p) b)
     ∙ rw (take-length p, take-length c, take-length (p ++ c), length-append p c)
     (ap₂ (λ x y. x ++ drop y b) (append-assoc (take at b) p c) (add-assoc at (length p) (length c)))
 

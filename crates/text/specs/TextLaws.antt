@@ -56,11 +56,11 @@ numeral-length zero x h = omega (arith, ap length (numeral-digit x (omega arith)
 numeral-length (suc more) x h =
     ⊎-elim
     (λ l.
-      omega (
-        arith,
-        ap length (numeral-step x l) ∙ length-append (numeral (x / 10)) (glyph (x % 10) ∷ []),
-        numeral-length more (x / 10) (omega (arith, pow-suc 10 (suc more))),
-      ))
+    omega (
+      arith,
+      ap length (numeral-step x l) ∙ length-append (numeral (x / 10)) (glyph (x % 10) ∷ []),
+      numeral-length more (x / 10) (omega (arith, pow-suc 10 (suc more))),
+    ))
     (λ l. omega (arith, ap length (numeral-digit x l))) (le-or-lt 10 x)
 
 pub two-digits : (x n : ℕ) → 10 ≤ x → x < 10 ^ n → 2 ≤ n

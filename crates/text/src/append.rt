@@ -8,7 +8,9 @@ ghost use Rattle.text.specs.Text.{numeral};
 ghost use Rattle.text.specs.Appending.{fits, placeAfter, bufferAfter};
 
 pub const COMMA: u8 = 44;
+
 pub const SLASH: u8 = 47;
+
 pub const LINE_FEED: u8 = 10;
 
 // How far the buffer is filled after a piece, and whether the piece fitted.

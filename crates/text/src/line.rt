@@ -29,7 +29,14 @@ fn put_line(buffer: &mut [u8], first: u64, second: u64, r: Rows) -> usize
 
 // Puts a listing line in at the buffer's start, and answers its length. The caller has tested the matrix, and that the line fits: it has at most
 // two numbers of five digits, 271 bytes of rows, two commas and a line feed.
-pub fn write_line(buffer: &mut [u8], first: u64, second: u64, matrix: &[u8], n: usize, k: usize) -> usize
+pub fn write_line(
+    buffer: &mut [u8],
+    first: u64,
+    second: u64,
+    matrix: &[u8],
+    n: usize,
+    k: usize,
+) -> usize
     requires { ⌜ (320 ≤ length (now buffer)) × (first < 100000) × (second < 100000) × DigitRows n k (now matrix) ⌝ }
     ensures { λ r. ⌜ (r ≡ length (lineText first second (rowsText n k (now (matrix .entry)))))
         × (now (buffer .exit) ≡ paste (now (buffer .entry)) 0 (lineText first second (rowsText n k (now (matrix .entry)))) (length (lineText first second (rowsText n k (now (matrix .entry)))))) ⌝ }

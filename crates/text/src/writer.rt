@@ -7,7 +7,6 @@ ghost use Rattle.text.specs.Text.{numeral};
 ghost use Rattle.text.specs.Appending.{fits};
 ghost use Rattle.text.specs.Shown.{shown};
 ghost use Rattle.text.specs.Writing.{appended};
-
 use crate::append;
 use crate::rows;
 use crate::rows::Rows;

@@ -6,15 +6,16 @@ use Prim.Native.Nat.{ℕ, _*_, _≤_}
 use native.Mathlib.Nat.{min-eq-left, mul-le-mul}
 use native.Mathlib.Omega.{arith}
 use lib.ListN.{length, take, drop, replicate, length-take, length-append}
-use lib.Seq.{take-at}
+use lib.Seq.{take-at, paste}
 use Rattle.matrix.specs.Matrix.{Reduced}
 use Rattle.extended.specs.Ranked.{drawnExtended}
 use Rattle.ferrers.specs.Ferrers.{ferrersIndex}
-use Rattle.text.specs.Rows.{DigitRows}
+use Rattle.text.specs.Rows.{DigitRows, rowsText}
+use Rattle.text.specs.Line.{lineText}
 use Rattle.text.specs.RowsLaws.{size-bound}
-use Rattle.listing.specs.Listing.{lineText, listingLine}
-use Rattle.listing.specs.LineFits.{drawn-is-reduced, digit-rows, line-fits}
-use Rattle.listing.specs.Pieces.{written}
+use Rattle.listing.specs.Listing.{listingLine}
+use Rattle.listing.specs.LineFits.{drawn-is-reduced, ferrers-inside, digit-rows}
+use Rattle.listing.specs.Pieces.{pasted}
 use borrow.Author.Needs.{needs}
 use Rattle.listing.proofs.write.write_listing_line.Statement.{statement}
 use Rattle.listing.proofs.write.write_listing_line.Tie as tie
@@ -50,17 +51,26 @@ sized c =
     let a = c .before .before .before .args in
     sym (ap length (take-at (c .unrank .last .0) (drop (a .k * a .n) zeros) (a .k * a .n) (filled c)) ∙ filled c)
 
+numbered : (c : tie.After-rank) →
+    let a = c .before .before .before .before .before .before .args in
+    c .rank .result .0 ≡ ferrersIndex (a .q) (a .n) (a .k) (drawnExtended (a .q) (a .n) (a .k) (a .index))
+unfolding zeros
+numbered c =
+    let f = c .before .before .before in
+    let a = f .before .before .before .args in
+    c .rank .ensures ∙ ap (ferrersIndex (a .q) (a .n) (a .k)) (front f)
+
 -- the line that is written is the listing's
 line : (c : tie.After-rank) →
     let f = c .before .before .before in
     let a = f .before .before .before .args in
-    lineText (a .index) (c .rank .result .0) (a .n) (a .k) (take (a .k * a .n) (f .unrank .last .0 ++ drop (a .k * a .n) zeros))
+    lineText (a .index) (c .rank .result .0) (rowsText (a .n) (a .k) (take (a .k * a .n) (f .unrank .last .0 ++ drop (a .k * a .n) zeros)))
     ≡ listingLine (a .q) (a .n) (a .k) (a .index)
 unfolding zeros listingLine
 line c =
     let f = c .before .before .before in
     let a = f .before .before .before .args in
-    ap₂ (λ i m. lineText (a .index) i (a .n) (a .k) m) (c .rank .ensures ∙ ap (ferrersIndex (a .q) (a .n) (a .k)) (front f)) (front f)
+    ap₂ (λ i m. lineText (a .index) i (rowsText (a .n) (a .k) m)) (numbered c) (front f)
 
 mul-size : tie.Need-mul-size
 mul-size c = omega (arith, short c)
@@ -108,9 +118,12 @@ write-line-requires c κs =
     let r = c .before .before in
     let f = r .before .before .before in
     let s = f .before .before .before in
-    let a = s .args in (
+    let a = s .args in
+    let few = s .pre .0 .few in (
+      s .pre .2,
+      omega (arith, few, s .pre .1),
+      omega (arith, few, numbered r, ferrers-inside (a .q) (a .n) (a .k) (a .index) (s .pre .0 .settings) (s .pre .1)),
       subst (DigitRows (a .n) (a .k)) (sym (front f)) (digit-rows (a .q) (a .n) (a .k) (a .index) (s .pre .0 .settings) (s .pre .1)),
-      omega (arith, ap length (line r), line-fits (a .q) (a .n) (a .k) (a .index) (s .pre .0) (s .pre .1), s .pre .2),
     )
 
 same-length : tie.Need-same-length
@@ -122,7 +135,10 @@ returns c =
     let w = c .before .before in
     let r = w .before .before .before in
     let a = r .before .before .before .before .before .before .args in
-    (w .write-line .ensures .0 ∙ ap length (line r), w .write-line .ensures .1 ∙ ap (λ t. written t (a .buffer .now)) (line r))
+    let start = a .buffer .now in (
+      w .write-line .ensures .0 ∙ ap length (line r),
+      w .write-line .ensures .1 ∙ ap (λ t. paste start 0 t (length t)) (line r) ∙ pasted start (listingLine (a .q) (a .n) (a .k) (a .index)),
+    )
 
 pub write-listing-line-spec : {M : Type 1} → statement M
 write-listing-line-spec =

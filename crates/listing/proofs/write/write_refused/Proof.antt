@@ -5,7 +5,7 @@ use Prim.Native.Nat.{_≤_}
 use native.Mathlib.Omega.{arith}
 use lib.ListN.{length, length-append}
 use Rattle.text.specs.Text.{numeral, lineFeed}
-use Rattle.settings_line.specs.NumeralLaws.{numeral-short}
+use Rattle.text.specs.TextLaws.{numeral-length}
 use Rattle.listing.specs.Listing.{refusedWord, refusedLine}
 use Rattle.listing.specs.Pieces.{filled-none, filled-put}
 use borrow.Author.Needs.{needs}
@@ -36,7 +36,7 @@ returns c =
     let s = first .before .before .before .before in
     let start = s .args .buffer .now in
     let r = s .args .refusal in
-    let short : length (numeral r) ≤ 10 = numeral-short 9 r (omega arith) in
+    let short : length (numeral r) ≤ 10 = numeral-length 9 r (omega arith) in
     let word = filled-put start [] refusedWord 0 start _ _ (filled-none start) (omega arith) (first .append .ensures .0) (first .append .ensures .2) in
     let number =
     filled-put start refusedWord (numeral r) _ _ _ _ word (omega arith) (second .append-number .ensures .0) (second .append-number .ensures .2) in

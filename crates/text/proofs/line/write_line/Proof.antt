@@ -27,7 +27,7 @@ returns c =
     let rows = rowsText (a .n) (a .k) (a .matrix .now) in
     let e : shown (t .rows-text .result) ≡ rows = t .rows-text .ensures in
     let r = line-room (a .buffer .now) (a .first) (a .second) rows
-      (omega (arith, lineText-bound (a .first) (a .second) (a .n) (a .k) (a .matrix .now) (pre .1) (pre .2) (pre .3 .columns) (pre .3 .rows))) in (
+    (omega (arith, lineText-bound (a .first) (a .second) (a .n) (a .k) (a .matrix .now) (pre .1) (pre .2) (pre .3 .columns) (pre .3 .rows))) in (
       p .put-line .ensures .0 ∙ ap (λ x. placeWith (a .buffer .now) 0 (linePieces (a .first) (a .second) x)) e ∙ r .0,
       p .put-line .ensures .1 ∙ ap (λ x. bufferWith (a .buffer .now) 0 (linePieces (a .first) (a .second) x)) e ∙ r .1,
     )
