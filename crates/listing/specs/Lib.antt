@@ -7,3 +7,4 @@ pub mod StepsLaws
 pub mod Theorems
 pub mod LineFits
 pub mod Filling
+pub mod Examples

@@ -4,6 +4,9 @@
 --   chunk-empty      == a step writes nothing only where nothing is left, and then it ends
 --   finished         == after 1,026 steps every state is Done
 --   chunks-are-the-output == the chunks of these steps are the output, for every input
+--   output-bounded   == the first 13 bytes of the input decide the output
+--   program-writes-the-output == the chunks of 1,026 steps begun with the first 13 bytes are the output of the whole input
+--   after-none, after-next == the state after no step, and after one step more
 -- Assumes nothing.
 use mathlib.Core.Path.{_≡_, refl, ap, ap₂, _∙_, sym}
 use mathlib.Core.Bool.{Bool, true, false, _&&_}
@@ -14,11 +17,12 @@ use native.Mathlib.Nat.{sub-zero}
 use native.Mathlib.Omega.{arith}
 use borrow.Author.Tests.{eq-eqb, ne-eqb, eqb-true, ltb-true, ltb-false, lt-ltb, le-ltb}
 use lib.Dec.{eqb, ltb}
-use lib.ListN.{length, length-append}
+use lib.ListN.{length, take, length-append}
 use Rattle.basics.specs.Order.{le-or-lt}
 use Rattle.gaussian.specs.Gaussian.{gaussian}
 use Rattle.gaussian.specs.Laws.{gaussian-positive}
 use Rattle.settings_line.specs.SettingsLine.{parsed}
+use Rattle.settings_line.specs.Exactly.{parsed-bounded}
 use Rattle.settings_line.specs.declared.Settings.{Settings}
 use Rattle.settings_line.specs.declared.Parsed.{Parsed}
 use Rattle.settings_line.specs.declared.Parsed.the-variants.{Settings as settings, Malformed}
@@ -148,3 +152,11 @@ pub after-next : (m : ℕ) (s : State) → stateAfter (suc m) s ≡ nextState (s
 unfolding stateAfter
 after-next zero s = refl
 after-next (suc m) s = after-next m (nextState s)
+
+-- the program reads at most 13 bytes of its input
+pub output-bounded : (input : List ℕ) → listingOutput (take 13 input) ≡ listingOutput input
+unfolding listingOutput
+output-bounded input = ap outputFor (parsed-bounded input)
+
+pub program-writes-the-output : (input : List ℕ) → chunks 1026 (begun (take 13 input)) ≡ listingOutput input
+program-writes-the-output input = chunks-are-the-output (take 13 input) ∙ output-bounded input
