@@ -3,7 +3,7 @@
 --   listing-2-3-0 == "2,3,0: one empty matrix, index 0 in both; its listing line is `0,0,`"
 -- Assumes nothing.
 use mathlib.Core.Path.{_≡_, refl}
-use mathlib.Core.List.{List, [], _∷_, _++_}
+use mathlib.Core.List.{[], _∷_, _++_}
 use Rattle.basics.specs.Table.{tabulate}
 use Rattle.basics.specs.Sum.{sum, sumRange, value}
 use Rattle.field.specs.Field.{isFieldSize}

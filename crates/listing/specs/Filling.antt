@@ -5,8 +5,8 @@
 --   filling-small, -length == how far the buffer is filled at most, and that it keeps its length
 --   filling-room    == 320 bytes are there for the next line
 -- Assumes nothing.
-use mathlib.Core.Path.{_≡_, refl, ap, ap₂, _∙_, sym}
-use mathlib.Core.List.{List, [], _++_}
+use mathlib.Core.Path.{_≡_, ap, ap₂, _∙_, sym}
+use mathlib.Core.List.{List, _++_}
 use Prim.Native.Nat.{ℕ, zero, suc, _+_, _*_, _-_, _≤_, _<_}
 use native.Mathlib.Omega.{arith}
 use lib.ListN.{length, take, drop, length-append, length-drop}

@@ -6,30 +6,25 @@
 --   chunk-live, chunk-dead, next-live, next-dead == a step among the lines
 --   dead-step, live-step == what it answers and leaves
 -- Assumes nothing.
-use mathlib.Core.Path.{_≡_, refl, ap, ap₂, _∙_, sym}
+use mathlib.Core.Path.{_≡_, refl, ap, _∙_, sym}
 use mathlib.Core.Bool.{Bool, true, false, _&&_}
-use mathlib.Core.Logic.{_⊎_, inl, inr, ⊎-elim}
-use mathlib.Core.List.{List, [], _∷_, _++_, append-assoc, append-nil}
-use Prim.Native.Nat.{ℕ, zero, suc, _+_, _*_, _-_, _≤_, _<_}
-use native.Mathlib.Nat.{sub-zero}
+use mathlib.Core.Logic.{⊎-elim}
+use mathlib.Core.List.{List, []}
+use Prim.Native.Nat.{ℕ, _+_, _-_, _≤_, _<_}
 use native.Mathlib.Omega.{arith}
-use borrow.Author.Tests.{eq-eqb, ne-eqb, eqb-true, ltb-true, ltb-false, lt-ltb, le-ltb}
+use borrow.Author.Tests.{eq-eqb, ne-eqb, eqb-true, ltb-true, lt-ltb, le-ltb}
 use lib.Dec.{eqb, ltb}
-use lib.ListN.{length, length-append}
+use lib.ListN.{length}
 use Rattle.basics.specs.Order.{le-or-lt}
 use Rattle.refusal.specs.Refusal.{line as lineRefusal}
 use Rattle.gaussian.specs.Gaussian.{gaussian}
-use Rattle.gaussian.specs.Laws.{gaussian-positive}
 use Rattle.settings_line.specs.SettingsLine.{parsed}
 use Rattle.settings_line.specs.declared.Settings.{Settings}
-use Rattle.settings_line.specs.declared.Parsed.{Parsed}
 use Rattle.settings_line.specs.declared.Parsed.the-variants.{Settings as settings, Malformed}
-use Rattle.listing.specs.Listing.{listRefusal, listingLine, linesFrom, header, refusedLine, outputFor, listingOutput}
-use Rattle.listing.specs.ListingLaws.{Listable, listable, lines-append, line-nonempty}
-use Rattle.listing.specs.Steps.{live, linesEnd, progressTo, started, remainingLines, remaining, begunFor, begun, linesChunk, chunkOf, linesNext, nextState, stateAfter, chunks}
+use Rattle.listing.specs.Listing.{listRefusal, linesFrom}
+use Rattle.listing.specs.Steps.{live, linesEnd, progressTo, remainingLines, begunFor, begun, linesChunk, linesNext}
 use Rattle.listing.specs.Pieces.{written}
 use Rattle.listing.specs.declared.Progress.{Progress}
-use Rattle.listing.specs.declared.State.{State}
 use Rattle.listing.specs.declared.State.the-variants.{Header, Lines, Refused, Done}
 
 abbrev pub countOf : Progress → ℕ

@@ -9,26 +9,22 @@
 --   after-none, after-next == the state after no step, and after one step more
 -- Assumes nothing.
 use mathlib.Core.Path.{_≡_, refl, ap, ap₂, _∙_, sym}
-use mathlib.Core.Bool.{Bool, true, false, _&&_}
-use mathlib.Core.Logic.{_⊎_, inl, inr, ⊎-elim}
-use mathlib.Core.List.{List, [], _∷_, _++_, append-assoc, append-nil}
-use Prim.Native.Nat.{ℕ, zero, suc, _+_, _*_, _-_, _≤_, _<_}
+use mathlib.Core.Bool.{Bool, true, false}
+use mathlib.Core.List.{List, [], _++_, append-assoc, append-nil}
+use Prim.Native.Nat.{ℕ, zero, suc, _+_, _*_, _-_, _≤_}
 use native.Mathlib.Nat.{sub-zero}
 use native.Mathlib.Omega.{arith}
-use borrow.Author.Tests.{eq-eqb, ne-eqb, eqb-true, ltb-true, ltb-false, lt-ltb, le-ltb}
-use lib.Dec.{eqb, ltb}
+use borrow.Author.Tests.{eqb-true}
+use lib.Dec.{eqb}
 use lib.ListN.{length, take, length-append}
-use Rattle.basics.specs.Order.{le-or-lt}
 use Rattle.gaussian.specs.Gaussian.{gaussian}
-use Rattle.gaussian.specs.Laws.{gaussian-positive}
 use Rattle.settings_line.specs.SettingsLine.{parsed}
 use Rattle.settings_line.specs.Exactly.{parsed-bounded}
-use Rattle.settings_line.specs.declared.Settings.{Settings}
 use Rattle.settings_line.specs.declared.Parsed.{Parsed}
 use Rattle.settings_line.specs.declared.Parsed.the-variants.{Settings as settings, Malformed}
-use Rattle.listing.specs.Listing.{listRefusal, listingLine, linesFrom, header, refusedLine, outputFor, listingOutput}
-use Rattle.listing.specs.ListingLaws.{Listable, listable, lines-append, line-nonempty}
-use Rattle.listing.specs.StepsLaws.{countOf, refusalOf, live-is, end-within, remaining-live, remaining-dead, remaining-from, chunk-live, chunk-dead, next-live, next-dead, past-dead}
+use Rattle.listing.specs.Listing.{listRefusal, linesFrom, header, refusedLine, outputFor, listingOutput}
+use Rattle.listing.specs.ListingLaws.{listable, lines-append, line-nonempty}
+use Rattle.listing.specs.StepsLaws.{countOf, live-is, end-within, remaining-live, remaining-dead, remaining-from, chunk-live, chunk-dead, next-live, next-dead, past-dead}
 use Rattle.listing.specs.Steps.{live, linesEnd, progressTo, started, remainingLines, remaining, begunFor, begun, linesChunk, chunkOf, linesNext, nextState, stateAfter, chunks}
 use Rattle.listing.specs.declared.Progress.{Progress}
 use Rattle.listing.specs.declared.State.{State}

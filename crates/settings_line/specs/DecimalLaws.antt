@@ -1,14 +1,14 @@
 -- How the code finds what stands at a cursor; no part of the meaning.
---   run-first       == the digits at a place begin with the byte there
---   numeral-...     == the test for a numeral, by the number of digits and the first of them
+--   numeral-single, numeral-led == when digits pass the test for a numeral
+--   read-number     == what is read is the number of the digits there, and the test holds
 --   decimal-unread  == nothing is read where the digits make too great a number
---   decimal-...     == what is read where they make the number x
+--   decimal-inside, -empty, -long, -single, -zero-led, -led == what is read where they make the number x, by their number and the first of them
 --   field-unread, -open, -other, -marked == what is read with the byte behind it
 -- Assumes nothing.
 use mathlib.Core.Path.{_≡_, refl, ap, ap₂, _∙_, sym}
 use mathlib.Core.Bool.{Bool, true, false, _&&_, _||_}
 use mathlib.Core.List.{List, [], _∷_}
-use Prim.Native.Nat.{ℕ, zero, suc, _+_, _-_, _≤_, _<_}
+use Prim.Native.Nat.{ℕ, _+_, _-_, _≤_, _<_}
 use native.Mathlib.Nat.{add-zero}
 use native.Mathlib.Omega.{arith}
 use borrow.Author.Tests.{le-leb, lt-leb, lt-ltb, le-ltb, eq-eqb, ne-eqb}
@@ -18,7 +18,6 @@ use lib.Seq.{getD-drop}
 use Rattle.basics.specs.Choice.{pick}
 use Rattle.settings_line.specs.Decimal.{isDigit, digitRun, reading, isNumeral, greatest, readIf, readAt, decimalAt, marked, fieldAt}
 use Rattle.settings_line.specs.declared.decimal.Numeral.{Numeral}
-use Rattle.settings_line.specs.declared.decimal.Decimal.{Decimal}
 use Rattle.settings_line.specs.declared.decimal.Decimal.the-variants.{Number, None}
 
 run-cons : (b : ℕ) (s : List ℕ) (t : Bool) → isDigit b ≡ t → 1 ≤ length (digitRun (b ∷ s)) → getD (digitRun (b ∷ s)) 0 0 ≡ b
@@ -26,17 +25,17 @@ unfolding digitRun
 run-cons b s true e h = rw (e, digitRun)
 run-cons b s false e h = let z : 1 ≤ 0 = rw (e, digitRun) at h in absurd (omega arith)
 
-pub run-first : (s : List ℕ) → 1 ≤ length (digitRun s) → (getD (digitRun s) 0 0 ≡ getD s 0 0) × (1 ≤ length s)
+run-first : (s : List ℕ) → 1 ≤ length (digitRun s) → (getD (digitRun s) 0 0 ≡ getD s 0 0) × (1 ≤ length s)
 unfolding digitRun
 run-first [] h = absurd (omega arith)
 run-first (b ∷ s) h = (run-cons b s (isDigit b) refl h, omega arith)
 
 module _ (most : ℕ) (s : List ℕ) where
-  pub numeral-empty : length s ≡ 0 → isNumeral most s ≡ false
+  numeral-empty : length s ≡ 0 → isNumeral most s ≡ false
   unfolding isNumeral
   numeral-empty e = rw e
 
-  pub numeral-long : 1 ≤ length s → most < length s → isNumeral most s ≡ false
+  numeral-long : 1 ≤ length s → most < length s → isNumeral most s ≡ false
   unfolding isNumeral
   numeral-long h l = rw (le-leb 1 (length s) h, lt-leb (length s) most l)
 
@@ -44,7 +43,7 @@ module _ (most : ℕ) (s : List ℕ) where
   unfolding isNumeral
   numeral-single e l = rw (le-leb (length s) most l, e)
 
-  pub numeral-zero-led : 1 < length s → length s ≤ most → getD s 0 0 ≡ 48 → isNumeral most s ≡ false
+  numeral-zero-led : 1 < length s → length s ≤ most → getD s 0 0 ≡ 48 → isNumeral most s ≡ false
   unfolding isNumeral
   numeral-zero-led h l z =
       rw (le-leb 1 (length s) (omega arith), le-leb (length s) most l, ne-eqb (length s) 1 (λ e. omega arith), eq-eqb (getD s 0 0) 48 z)
@@ -80,7 +79,7 @@ module _ (text : List ℕ) (at most : ℕ) (x : Numeral) (e : readAt text at ≡
       let r = read-number (leb (reading 0 s) greatest) at s x e in
       ap₂ (λ a c. readIf (a && c) at s) (r .0) i ∙ ap (λ y. pick b (Number y) None) (sym (r .1))
 
-  pub read-size : x .end ≡ at + length (digitRun (drop at text))
+  read-size : x .end ≡ at + length (digitRun (drop at text))
   unfolding readAt
   read-size = let s = digitRun (drop at text) in ap (λ y. y .end) (read-number (leb (reading 0 s) greatest) at s x e .1)
 

@@ -6,16 +6,16 @@
 use mathlib.Core.Path.{_≡_, refl, ap, ap₂, _∙_, sym}
 use mathlib.Core.Bool.{Bool, true, false, _&&_, _||_, not}
 use mathlib.Core.Logic.{_⊎_, inl, inr, ⊎-elim}
-use mathlib.Core.List.{List, [], _∷_, _++_, append-assoc}
-use Prim.Native.Nat.{ℕ, zero, suc, _+_, _-_, _^_, _≤_, _<_}
-use native.Mathlib.Nat.{lt-of-lt-of-le, pow-le-pow-right, add-assoc}
+use mathlib.Core.List.{List, [], _∷_, _++_}
+use Prim.Native.Nat.{ℕ, suc, _+_, _-_, _^_, _≤_, _<_}
+use native.Mathlib.Nat.{lt-of-lt-of-le, pow-le-pow-right}
 use native.Mathlib.Numerals.{add-one}
 use native.Mathlib.Omega.{arith}
-use borrow.Author.Tests.{le-leb, leb-true, ltb-true, eqb-true, eqb-false, eq-eqb}
-use lib.Dec.{T, leb, ltb, eqb, leb→le, ltb→lt, eqb→eq}
+use borrow.Author.Tests.{le-leb, ltb-true, eqb-true, eq-eqb}
+use lib.Dec.{T, leb, ltb, eqb, leb→le, eqb→eq}
 use lib.ListN.{length, getD, drop, length-append, length-drop}
-use lib.Seq.{drop-drop, drop-cons, drop-append-add, drop-append-seam, getD-append-seam, getD-drop}
-use Rattle.basics.specs.Choice.{pick, holds, is-true}
+use lib.Seq.{drop-drop, drop-cons, drop-append-seam, getD-append-seam, getD-drop}
+use Rattle.basics.specs.Choice.{pick, holds}
 use Rattle.basics.specs.Test.{and-left, and-right}
 use Rattle.text.specs.Text.{numeral}
 use Rattle.text.specs.TextLaws.{numeral-length}

@@ -1,31 +1,24 @@
 -- Numerals and the numbers that they make; no part of the meaning.
---   numeral-more          == one more digit behind the numeral of a number that is not 0
 --   DigitBytes s          == every byte of s is a digit's
---   numeral-digits        == a numeral consists of digits
+--   numeral-digits, -nonempty, -first == a numeral consists of digits, has one at least, and has no needless leading zero
 --   reading-numeral       == a numeral makes its number
 --   numeral-reading       == digits without a needless leading zero are the numeral of the number that they make
---   numeral-is            == a number below 10^most has a numeral of at most `most` digits, with no needless leading zero
 --   reading-below         == a number of so many digits is below that power of 10
 -- Assumes nothing.
-use mathlib.Core.Path.{_≡_, refl, ap, ap₂, _∙_, sym}
-use mathlib.Core.Bool.{Bool, true, false, _&&_, _||_, not}
+use mathlib.Core.Path.{_≡_, refl, ap, _∙_, sym}
 use mathlib.Core.Logic.{_⊎_, inl, inr, ⊎-elim}
 use mathlib.Core.List.{List, [], _∷_, _++_, append-assoc, append-nil}
 use Prim.Native.Nat.{ℕ, zero, suc, _+_, _*_, _-_, _^_, _/_, _%_, _≤_, _<_}
-use native.Mathlib.Nat.{le-refl, le-trans, pow-succ', pow-suc, pow-zero, mul-le-mul-right, mul-assoc, lt-of-lt-of-le}
-use native.Mathlib.Numerals.{add-one}
+use native.Mathlib.Nat.{le-refl, pow-succ', mul-le-mul-right, mul-assoc, lt-of-lt-of-le}
 use native.Mathlib.Omega.{arith}
-use borrow.Author.Tests.{le-leb, lt-leb, le-ltb, lt-ltb, eq-eqb, ne-eqb, eqb-true, eqb-false, leb-true, not-true}
-use lib.Dec.{T, leb, ltb, eqb}
 use lib.ListN.{length, getD, length-append, List·getD-append}
-use Rattle.basics.specs.Choice.{is-true, holds}
 use Rattle.basics.specs.Order.{le-or-lt}
-use Rattle.basics.specs.Test.{and-left, and-right}
 use Rattle.text.specs.Text.{glyph, numeral}
 use Rattle.text.specs.TextLaws.{numeral-digit, numeral-step}
-use Rattle.settings_line.specs.Decimal.{isDigit, reading, isNumeral}
+use Rattle.settings_line.specs.Decimal.{reading}
 
-pub numeral-more : (x d : ℕ) → 1 ≤ x → d < 10 → numeral (x * 10 + d) ≡ numeral x ++ (glyph d ∷ [])
+-- one more digit behind the numeral of a number that is not 0
+numeral-more : (x d : ℕ) → 1 ≤ x → d < 10 → numeral (x * 10 + d) ≡ numeral x ++ (glyph d ∷ [])
 numeral-more x d h l =
     let front : (x * 10 + d) / 10 ≡ x = omega arith in
     let last : (x * 10 + d) % 10 ≡ d = omega arith in
@@ -35,7 +28,7 @@ pub data DigitBytes : List ℕ → Type 0 where
   none : DigitBytes []
   more : {b : ℕ} {s : List ℕ} → 48 ≤ b → b ≤ 57 → DigitBytes s → DigitBytes (b ∷ s)
 
-pub digits-append : {s t : List ℕ} → DigitBytes s → DigitBytes t → DigitBytes (s ++ t)
+digits-append : {s t : List ℕ} → DigitBytes s → DigitBytes t → DigitBytes (s ++ t)
 digits-append none e = e
 digits-append (more l h d) e = more l h (digits-append d e)
 
@@ -52,7 +45,7 @@ digits-within (suc m) x h =
 pub numeral-digits : (x : ℕ) → DigitBytes (numeral x)
 numeral-digits x = digits-within x x (le-refl x)
 
-pub reading-append : (v : ℕ) (s t : List ℕ) → reading v (s ++ t) ≡ reading (reading v s) t
+reading-append : (v : ℕ) (s t : List ℕ) → reading v (s ++ t) ≡ reading (reading v s) t
 unfolding reading
 reading-append v [] t = refl
 reading-append v (b ∷ s) t = reading-append (v * 10 + (b - 48)) s t

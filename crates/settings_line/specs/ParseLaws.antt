@@ -2,18 +2,16 @@
 --   parsed-first, -second, -third == Malformed, where that field is not read
 --   parsed-more, parsed-settings  == what is found by the end of the third field
 -- Assumes nothing.
-use mathlib.Core.Path.{_≡_, refl, ap, _∙_}
+use mathlib.Core.Path.{_≡_}
 use mathlib.Core.List.{List}
 use Prim.Native.Nat.{ℕ}
 use borrow.Author.Tests.{eq-eqb, ne-eqb}
 use lib.ListN.{length}
 use Rattle.text.specs.Text.{comma, lineFeed}
 use Rattle.settings_line.specs.Decimal.{fieldAt}
-use Rattle.settings_line.specs.SettingsLine.{after, parsed}
+use Rattle.settings_line.specs.SettingsLine.{parsed}
 use Rattle.settings_line.specs.declared.decimal.Numeral.{Numeral}
-use Rattle.settings_line.specs.declared.decimal.Decimal.{Decimal}
 use Rattle.settings_line.specs.declared.decimal.Decimal.the-variants.{Number, None}
-use Rattle.settings_line.specs.declared.Parsed.{Parsed}
 use Rattle.settings_line.specs.declared.Parsed.the-variants.{Settings as settings, Malformed}
 
 pub parsed-first : (s : List ℕ) → fieldAt s 0 3 comma ≡ None → parsed s ≡ Malformed

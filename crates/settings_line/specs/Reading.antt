@@ -6,8 +6,8 @@
 --   running-start, -more == it holds at the start and after one more digit
 --   running-done, -over  == what is read where no digit follows, and where the next makes the number too great
 -- Assumes nothing.
-use mathlib.Core.Path.{_≡_, refl, ap, ap₂, _∙_, sym}
-use mathlib.Core.Bool.{Bool, true, false}
+use mathlib.Core.Path.{_≡_, refl, ap, _∙_}
+use mathlib.Core.Bool.{true, false}
 use mathlib.Core.List.{List, [], _∷_}
 use Prim.Native.Nat.{ℕ, suc, _+_, _*_, _-_, _≤_, _<_}
 use native.Mathlib.Nat.{le-refl, le-trans, add-zero}
@@ -19,8 +19,7 @@ use lib.ListN.{length, getD, drop, drop-of-length-le}
 use lib.Seq.{drop-cons}
 use Rattle.basics.specs.Choice.{holds}
 use Rattle.basics.specs.Test.{and-left, and-right}
-use Rattle.settings_line.specs.Decimal.{isDigit, digitRun, reading, greatest, readIf, readAt}
-use Rattle.settings_line.specs.declared.decimal.Decimal.{Decimal}
+use Rattle.settings_line.specs.Decimal.{isDigit, digitRun, reading, greatest, readAt}
 use Rattle.settings_line.specs.declared.decimal.Decimal.the-variants.{Number, None}
 
 pub digit-bounds : (b : ℕ) → isDigit b ≡ true → (48 ≤ b) × (b ≤ 57)

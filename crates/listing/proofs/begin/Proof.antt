@@ -1,8 +1,7 @@
 -- `listing::begin` meets its contract: what the input is found to be, and the refusal of its settings.
 use mathlib.Core.Path.{_≡_, _∙_, ap, sym}
 use Rattle.settings_line.specs.SettingsLine.{parsed}
-use Rattle.settings_line.specs.declared.Parsed.the-variants.{Settings as settings, Malformed}
-use Rattle.listing.specs.Listing.{listRefusal}
+use Rattle.settings_line.specs.declared.Parsed.the-variants.{Settings as settings}
 use Rattle.listing.specs.StepsLaws.{begun-malformed, begun-refused, begun-header}
 use Rattle.listing.specs.declared.State.the-variants.{Refused}
 use borrow.Author.Needs.{needs}

@@ -1,5 +1,5 @@
 -- `listing::step` meets its contract: each arm knows the state.
-use mathlib.Core.Path.{_≡_, _∙_, ap, sym}
+use mathlib.Core.Path.{_∙_, ap, sym}
 use lib.ListN.{length}
 use Rattle.listing.specs.Steps.{chunkOf, nextState}
 use Rattle.listing.specs.Pieces.{written}

@@ -1,5 +1,5 @@
 -- `settings_line::parse` meets its contract: three fields one after the other, and nothing after the third.
-use mathlib.Core.Path.{_≡_, _∙_, ap, sym}
+use mathlib.Core.Path.{_≡_, _∙_, sym}
 use Rattle.text.specs.Text.{comma, lineFeed}
 use Rattle.settings_line.specs.Decimal.{fieldAt}
 use Rattle.settings_line.specs.ParseLaws.{parsed-first, parsed-second, parsed-third, parsed-more, parsed-settings}

@@ -1,5 +1,4 @@
 -- `listing::write::write_refused` meets its contract: three pieces one after the other. A number below 2^32 has at most 10 digits.
-use mathlib.Core.Path.{_≡_}
 use mathlib.Core.List.{[], _∷_, _++_}
 use Prim.Native.Nat.{_≤_}
 use native.Mathlib.Omega.{arith}

@@ -1,8 +1,8 @@
 -- `settings_line::decimal::read_digits` meets its contract: the digits passed make the value, and those ahead finish the number; the test
 -- before each step is exactly that the next value is at most 2^64 - 1.
 use mathlib.Core.Path.{_≡_, _∙_, sym}
-use mathlib.Core.Bool.{true, false}
-use Prim.Native.Nat.{_-_, _≤_}
+use mathlib.Core.Bool.{true}
+use Prim.Native.Nat.{_-_}
 use native.Mathlib.Omega.{arith}
 use borrow.Author.Needs.{needs}
 use borrow.Author.Tests.{not-true, not-false}
