@@ -58,6 +58,7 @@ use Rattle.text.proofs.writer.Writer as T
 use Rattle.text.proofs.writer.Writer.Laws as T′
 use Rattle.text.proofs.Again.{LentAgain, lends-again, comes-back}
 
+-- the types of a lent slice and of the writer, as the code has them
 abbrev slice : Ty
 slice = tyStruct (38 ∷ 91 ∷ 93 ∷ []) (tcons (tyRef erased mut (tyInt w8)) (tcons (tyInt w64) tnil))
 
@@ -137,7 +138,7 @@ module _ (X : RattleType) (piece : X .Denot → List ℕ) where
 module _ {M : Type 1} (𝓤 : URA M) (H : Heap 𝓤) (A : Atoms 𝓤) (W : Given 𝓤 H A) (X : RattleType) (piece : X .Denot → List ℕ) (τ : Ty) (val : X .Denot → Val)
     (typed : (v : X .Denot) → Is X v (val v ∷ []) → Holds (hasTy τ (val v)) × WT (val v)) (tells : Tells X (Is X) (λ v. val v ∷ [])) (made : Makes 𝓤 H A X (Is X))
     (last : (v : X .Denot) → Last (X .exit yes) v) (silent : (v : X .Denot) (z : Last (X .exit yes) v) → left (X .exit yes) v z ≡ ftrue) where
-  -- the contract that the walk cites, and its own
+  -- the contract that the walk cites
   abbrev Callee : Contract 𝓤
   Callee = tripleOf 𝓤 H A (appends X piece .signature) (closing 𝓤 H A (appends X piece) (appending X piece 𝓤))
 

@@ -3,7 +3,7 @@
 --   bufferWith-length == the buffer stays as long as it is
 --   with-room         == pieces that have room together stand one after the other
 --   line-room         == so do those of a line that has room
---   lineText-length, lineText-bound == how many bytes a line has: those of its two numbers and its rows, two commas and a line feed
+--   lineWith-length, lineText-bound == how many bytes a line has: those of its two numbers and its rows, two commas and a line feed
 -- Assumes nothing.
 use mathlib.Core.Path.{_≡_, refl, ap, ap₂, _∙_, sym}
 use mathlib.Core.List.{List, [], _∷_, _++_, append-assoc}
@@ -18,7 +18,7 @@ use Rattle.text.specs.AppendingLaws.{fitted, room-fits, bufferAfter-leng
 use Rattle.text.specs.TextLaws.{numeral-length}
 use Rattle.text.specs.Rows.{rowsText}
 use Rattle.text.specs.RowsLaws.{rowsText-length, size-bound}
-use Rattle.text.specs.Line.{linePieces, lineText, placeWith, bufferWith}
+use Rattle.text.specs.Line.{lineWith, lineText, linePieces, placeWith, bufferWith}
 
 abbrev pub joined : List (List ℕ) → List ℕ
 joined [] = []
@@ -53,27 +53,27 @@ with-room b at (p ∷ pieces) h =
       more .1 ∙ ap₂ (λ x y. paste x y c (length c)) (sym (f .2)) (sym (f .0)) ∙ paste-paste b at p c (omega arith),
     )
 
-pub line-room : (b : List ℕ) (first second : ℕ) (rows : List ℕ) → length (lineText first second rows) ≤ length b
-    → (placeWith b 0 (linePieces first second rows) ≡ length (lineText first second rows))
-    × (bufferWith b 0 (linePieces first second rows) ≡ paste b 0 (lineText first second rows) (length (lineText first second rows)))
-unfolding lineText
+pub line-room : (b : List ℕ) (first second : ℕ) (rows : List ℕ) → length (lineWith first second rows) ≤ length b
+    → (placeWith b 0 (linePieces first second rows) ≡ length (lineWith first second rows))
+    × (bufferWith b 0 (linePieces first second rows) ≡ paste b 0 (lineWith first second rows) (length (lineWith first second rows)))
+unfolding lineWith
 line-room b first second rows h =
     let e = with-room b 0 (linePieces first second rows) (omega arith) in
-    (e .0 ∙ zero-add (length (lineText first second rows)), e .1)
+    (e .0 ∙ zero-add (length (lineWith first second rows)), e .1)
 
-pub lineText-length : (first second : ℕ) (rows : List ℕ) → length (lineText first second rows) ≡ length (numeral first) + length (numeral second) + length rows + 3
-unfolding lineText
-lineText-length first second rows =
+pub lineWith-length : (first second : ℕ) (rows : List ℕ) → length (lineWith first second rows) ≡ length (numeral first) + length (numeral second) + length rows + 3
+unfolding lineWith
+lineWith-length first second rows =
     length-append (numeral first) (comma ∷ (numeral second ++ (comma ∷ (rows ++ (lineFeed ∷ [])))))
     ∙ omega (arith, length-append (numeral second) (comma ∷ (rows ++ (lineFeed ∷ []))), length-append rows (lineFeed ∷ []))
 
 -- two numbers of at most five digits, and at most 16 rows of 16 digits
 pub lineText-bound : (first second n k : ℕ) (m : List ℕ) → first < 100000 → second < 100000 → n ≤ 16 → k ≤ 16
-    → length (lineText first second (rowsText n k m)) ≤ 284
+    → length (lineText first second n k m) ≤ 284
 lineText-bound first second n k m f s hn hk =
     omega (
       arith,
-      lineText-length first second (rowsText n k m),
+      lineWith-length first second (rowsText n k m),
       numeral-length 4 first f,
       numeral-length 4 second s,
       rowsText-length n m k,

@@ -1,11 +1,16 @@
 // Pieces of text put into a lent buffer that is filled up to some place. A piece that does not fit leaves the buffer and the place unchanged.
 ghost use mathlib.Core.Path.{_≡_};
 ghost use mathlib.Core.List.{[], _∷_};
-ghost use Prim.Native.Nat.{_+_, _≤_};
+ghost use mathlib.Core.Bool.{_&&_};
+ghost use Prim.Native.Nat.{_+_, _-_, _≤_};
+ghost use lib.Dec.{leb};
 ghost use lib.ListN.{length, drop};
 ghost use lib.Seq.{paste};
 ghost use Rattle.text.specs.Text.{numeral};
 ghost use Rattle.text.specs.Appending.{fits, placeAfter, bufferAfter};
+
+// The bytes of the digit 0, the comma, the slash and the line feed.
+pub const ZERO: u8 = 48;
 
 pub const COMMA: u8 = 44;
 
@@ -17,6 +22,16 @@ pub const LINE_FEED: u8 = 10;
 pub struct Put {
     pub at: usize,
     pub fits: bool,
+}
+
+// Whether `length` bytes have room from the place `at` on. The place is tested first, so one past the end has room for none, and no number wraps.
+fn has_room(size: usize, at: usize, length: usize) -> bool
+    ensures { λ r. ⌜ r ≡ leb at size && leb length (size - at) ⌝ }
+{
+    if size < at {
+        return false;
+    }
+    length <= size - at
 }
 
 // Copies the piece to the places of the buffer from `at` on.
@@ -31,23 +46,20 @@ fn copy(piece: &[u8], buffer: &mut [u8], at: usize)
     }
 }
 
-// Puts a piece in at the place `at`. The place is tested first, so a place past the buffer's end refuses every piece.
+// Puts a piece in at the place `at`.
 pub fn append(buffer: &mut [u8], at: usize, piece: &[u8]) -> Put
     ensures { λ r. ⌜ (r .at ≡ placeAfter (length (now (buffer .entry))) at (now (piece .entry)))
         × (r .fits ≡ fits (length (now (buffer .entry))) at (now (piece .entry)))
         × (now (buffer .exit) ≡ bufferAfter (now (buffer .entry)) at (now (piece .entry))) ⌝ }
 {
-    if buffer.len() < at {
-        return Put { at, fits: false };
+    if has_room(buffer.len(), at, piece.len()) {
+        copy(piece, buffer, at);
+        return Put {
+            at: at + piece.len(),
+            fits: true,
+        };
     }
-    if buffer.len() - at < piece.len() {
-        return Put { at, fits: false };
-    }
-    copy(piece, buffer, at);
-    Put {
-        at: at + piece.len(),
-        fits: true,
-    }
+    Put { at, fits: false }
 }
 
 // A numeral: the digits from the place `start` on.
@@ -65,11 +77,11 @@ fn numeral_of(x: u64) -> Numeral
     let mut rest = x;
     while rest >= 10 {
         start -= 1;
-        digits[start] = 48 + (rest % 10) as u8;
+        digits[start] = ZERO + (rest % 10) as u8;
         rest /= 10;
     }
     start -= 1;
-    digits[start] = 48 + rest as u8;
+    digits[start] = ZERO + rest as u8;
     Numeral { digits, start }
 }
 

@@ -29,7 +29,7 @@ fn rows_byte(matrix: &[u8], n: usize, k: usize, place: usize) -> u8
     if column == n {
         return append::SLASH;
     }
-    48 + matrix[row * n + column]
+    append::ZERO + matrix[row * n + column]
 }
 
 // The text of rows: the first `size` of the bytes. There is room for 16 rows of 16 digits.
@@ -54,13 +54,13 @@ pub(crate) fn rows_text(matrix: &[u8], n: usize, k: usize) -> Rows
 }
 
 // Puts the text of rows in.
-pub fn append_rows(buffer: &mut [u8], at: usize, rows: Rows) -> Put
-    ensures { λ r. ⌜ (r .at ≡ placeAfter (length (now (buffer .entry))) at (shown rows))
-        × (r .fits ≡ fits (length (now (buffer .entry))) at (shown rows))
-        × (now (buffer .exit) ≡ bufferAfter (now (buffer .entry)) at (shown rows)) ⌝ }
+pub fn append_rows(buffer: &mut [u8], at: usize, text: Rows) -> Put
+    ensures { λ r. ⌜ (r .at ≡ placeAfter (length (now (buffer .entry))) at (shown text))
+        × (r .fits ≡ fits (length (now (buffer .entry))) at (shown text))
+        × (now (buffer .exit) ≡ bufferAfter (now (buffer .entry)) at (shown text)) ⌝ }
 {
-    let bytes = rows.bytes;
-    let size = rows.size;
+    let bytes = text.bytes;
+    let size = text.size;
     if size < 271 {
         return append::append(buffer, at, &bytes[..size]);
     }

@@ -44,11 +44,11 @@ pub fn byte<'s, 'a>(w: &'s mut Writer<'a>, b: u8) -> bool
 }
 
 // Puts the text of rows in.
-pub fn rows<'s, 'a>(w: &'s mut Writer<'a>, r: Rows) -> bool
-    ensures { λ b. ⌜ (b ≡ fits (length (now (now (w .entry) .buffer))) (now (w .entry) .at) (shown r)) × (now (w .exit) ≡ appended (now (w .entry)) (shown r)) ⌝ }
+pub fn rows<'s, 'a>(w: &'s mut Writer<'a>, text: Rows) -> bool
+    ensures { λ r. ⌜ (r ≡ fits (length (now (now (w .entry) .buffer))) (now (w .entry) .at) (shown text)) × (now (w .exit) ≡ appended (now (w .entry)) (shown text)) ⌝ }
 {
     let at = w.at;
-    let put = rows::append_rows(&mut *w.buffer, at, r);
+    let put = rows::append_rows(&mut *w.buffer, at, text);
     w.at = put.at;
     put.fits
 }

@@ -1,42 +1,42 @@
--- `text::append::append` meets its contract: each test decides `fits`, and `fits` decides the rest.
-use mathlib.Core.Path.{_∙_}
+-- `text::append::append` meets its contract: `has_room` decides `fits`, and `fits` decides the rest.
+use mathlib.Core.Path.{_∙_, sym}
+use native.Mathlib.Omega.{arith}
 use borrow.Author.Needs.{needs}
-use borrow.Author.Tests.{le-leb, lt-leb}
-use Rattle.text.specs.AppendingLaws.{refused, fitted}
+use lib.ListN.{length}
+use Rattle.text.specs.AppendingLaws.{refused, fitted, fits-room}
 use Rattle.text.proofs.append.append.Statement.{statement}
 use Rattle.text.proofs.append.append.Tie as tie
 
-returns : tie.Need-returns
-returns c =
-    let a = c .before .before .before .args in
-    refused (a .buffer .now) (a .at) (a .piece .now) (simp (lt-leb _ _ (c .if1 .taken)))
-
-sub-if2 : tie.Need-sub-if2
-sub-if2 c = search needs
-
-returns-2 : tie.Need-returns-2
-returns-2 c =
-    let k = c .before in
-    let a = k .before .before .before .args in
-    refused (a .buffer .now) (a .at) (a .piece .now) (simp (le-leb _ _ (k .if1 .left), lt-leb _ _ (c .if2 .taken)))
+has-room-requires : tie.Need-has-room-requires
+has-room-requires c κs = search needs
 
 copy-requires : tie.Need-copy-requires
-copy-requires c κs = search needs
+copy-requires c κs =
+    let t = c .before in
+    let a = t .before .before .before .before .args in
+    fits-room (length (a .buffer .now)) (a .at) (a .piece .now) (sym (t .before .has-room .ensures) ∙ t .if1 .taken)
 
-add-t6 : tie.Need-add-t6
-add-t6 c = search needs
+add-t11 : tie.Need-add-t11
+add-t11 c =
+    let t = c .before .before .before .before in
+    let a = t .before .before .before .before .args in
+    omega (arith, fits-room (length (a .buffer .now)) (a .at) (a .piece .now) (sym (t .before .has-room .ensures) ∙ t .if1 .taken))
 
 same-length : tie.Need-same-length
 same-length c = search needs
 
-returns-3 : tie.Need-returns-3
-returns-3 c =
+returns : tie.Need-returns
+returns c =
     let s = c .before .before in
-    let k = s .before .before in
-    let a = k .before .before .before .before .args in
-    let f = fitted (a .buffer .now) (a .at) (a .piece .now) (simp (le-leb _ _ (k .before .if1 .left), le-leb _ _ (k .if2 .left))) in
+    let t = s .before .before in
+    let a = t .before .before .before .before .args in
+    let f = fitted (a .buffer .now) (a .at) (a .piece .now) (sym (t .before .has-room .ensures) ∙ t .if1 .taken) in
     (f .0, f .1, s .copy .ensures ∙ f .2)
 
+returns-2 : tie.Need-returns-2
+returns-2 c =
+    let a = c .before .before .before .before .args in
+    refused (a .buffer .now) (a .at) (a .piece .now) (sym (c .before .has-room .ensures) ∙ c .if1 .left)
+
 pub append-spec : {M : Type 1} → statement M
-append-spec =
-    tie.close (tie.spec returns sub-if2 returns-2 copy-requires add-t6 same-length returns-3)
+append-spec = tie.close (tie.spec has-room-requires copy-requires add-t11 same-length returns returns-2)

@@ -11,15 +11,15 @@ use Rattle.text.proofs.rows.append_rows.Tie as tie
 
 array-share-prefix-bytes : tie.Need-array-share-prefix-bytes
 array-share-prefix-bytes c =
-    let rows = c .before .before .before .before .args .rows in
-    let l : length (rows .bytes) ≡ 271 = search needs in
+    let text = c .before .before .before .before .args .text in
+    let l : length (text .bytes) ≡ 271 = search needs in
     omega arith
 
 slice-aggregate-append : tie.Need-slice-aggregate-append
 slice-aggregate-append c =
-    let rows = c .before .before .before .before .before .args .rows in
-    let l : length (rows .bytes) ≡ 271 = search needs in
-    sym (length-take-le (rows .size) (rows .bytes) (omega arith))
+    let text = c .before .before .before .before .before .args .text in
+    let l : length (text .bytes) ≡ 271 = search needs in
+    sym (length-take-le (text .size) (text .bytes) (omega arith))
 
 append-requires : tie.Need-append-requires
 append-requires c κs = search needs
@@ -43,8 +43,8 @@ returns-2 : tie.Need-returns-2
 returns-2 c =
     let p = c .before .before .append2 .ensures in
     let a = c .before .before .before .before .before .before .before .before .args in
-    let l : length (a .rows .bytes) ≡ 271 = search needs in
-    let e : a .rows .bytes ≡ shown (a .rows) = sym (take-all (a .rows .size) (a .rows .bytes) (omega arith)) in (
+    let l : length (a .text .bytes) ≡ 271 = search needs in
+    let e : a .text .bytes ≡ shown (a .text) = sym (take-all (a .text .size) (a .text .bytes) (omega arith)) in (
       p .0 ∙ ap (placeAfter (length (a .buffer .now)) (a .at)) e,
       p .1 ∙ ap (fits (length (a .buffer .now)) (a .at)) e,
       p .2 ∙ ap (bufferAfter (a .buffer .now) (a .at)) e,
