@@ -14,7 +14,7 @@ use Rattle.gaussian.specs.Settings.{rowLengthOk, shapeOk, countOk, settingsRefu
 use Rattle.extended.specs.Ranked.{extendedShape, drawnExtended}
 use Rattle.ferrers.specs.Ferrers.{freeFrom, freeColumns, dots, diagram, total, size, dottedFrom, tableauOf, tableau, tableauValue, diagramTerm, diagramPlace, largerDiagrams, ferrersIndex}
 use Rattle.ferrers.specs.Partitions.{partitionsRow, partitions}
-use Rattle.text.specs.Line.{lineText}
+use Rattle.text.specs.Line.{lineWith}
 use Rattle.text.specs.Rows.{rowText, rowsText}
 use Rattle.text.specs.Text.{numeralWithin, numeral}
 use Rattle.settings_line.specs.Decimal.{isDigit, digitRun, reading, isNumeral, decimalAt, fieldAt}
@@ -30,11 +30,11 @@ pub listing-2-3-1 : listingOutput (50 ∷ 44 ∷ 51 ∷ 44 ∷ 49 ∷ 10 ∷ [])
     ++ (52 ∷ 44 ∷ 51 ∷ 44 ∷ 49 ∷ 49 ∷ 49 ∷ 10 ∷ [])
     ++ (53 ∷ 44 ∷ 53 ∷ 44 ∷ 48 ∷ 49 ∷ 49 ∷ 10 ∷ [])
     ++ (54 ∷ 44 ∷ 54 ∷ 44 ∷ 48 ∷ 48 ∷ 49 ∷ 10 ∷ [])
-unfolding listingOutput header linesFrom listingLine listRefusal parsed fieldAt decimalAt digitRun isDigit reading isNumeral settingsRefusal isFieldSize shapeOk rowLengthOk countOk gaussian lineText numeral numeralWithin rowsText rowText tabulate drawnExtended extendedShape cell flatten ferrersIndex largerDiagrams diagramPlace diagramTerm tableauValue tableau tableauOf dottedFrom freeFrom freeColumns dots diagram total size partitions partitionsRow lead leadFrom value sum sumRange pivotAt
+unfolding listingOutput header linesFrom listingLine listRefusal parsed fieldAt decimalAt digitRun isDigit reading isNumeral settingsRefusal isFieldSize shapeOk rowLengthOk countOk gaussian lineWith numeral numeralWithin rowsText rowText tabulate drawnExtended extendedShape cell flatten ferrersIndex largerDiagrams diagramPlace diagramTerm tableauValue tableau tableauOf dottedFrom freeFrom freeColumns dots diagram total size partitions partitionsRow lead leadFrom value sum sumRange pivotAt
 listing-2-3-1 = refl
 
 pub listing-2-3-0 : listingOutput (50 ∷ 44 ∷ 51 ∷ 44 ∷ 48 ∷ 10 ∷ [])
     ≡ header
     ++ (48 ∷ 44 ∷ 48 ∷ 44 ∷ 10 ∷ [])
-unfolding listingOutput header linesFrom listingLine listRefusal parsed fieldAt decimalAt digitRun isDigit reading isNumeral settingsRefusal isFieldSize shapeOk rowLengthOk countOk gaussian lineText numeral numeralWithin rowsText rowText tabulate drawnExtended extendedShape cell flatten ferrersIndex largerDiagrams diagramPlace diagramTerm tableauValue tableau tableauOf dottedFrom freeFrom freeColumns dots diagram total size partitions partitionsRow lead leadFrom value sum sumRange pivotAt
+unfolding listingOutput header linesFrom listingLine listRefusal parsed fieldAt decimalAt digitRun isDigit reading isNumeral settingsRefusal isFieldSize shapeOk rowLengthOk countOk gaussian lineWith numeral numeralWithin rowsText rowText tabulate drawnExtended extendedShape cell flatten ferrersIndex largerDiagrams diagramPlace diagramTerm tableauValue tableau tableauOf dottedFrom freeFrom freeColumns dots diagram total size partitions partitionsRow lead leadFrom value sum sumRange pivotAt
 listing-2-3-0 = refl

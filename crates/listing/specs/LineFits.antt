@@ -23,7 +23,7 @@ use Rattle.text.specs.Text.{numeral}
 use Rattle.text.specs.TextLaws.{numeral-length}
 use Rattle.text.specs.Rows.{DigitRows, rowsText}
 use Rattle.text.specs.RowsLaws.{rowsText-length}
-use Rattle.text.specs.LineLaws.{lineText-length}
+use Rattle.text.specs.LineLaws.{lineWith-length}
 use Rattle.listing.specs.Listing.{listingLine}
 use Rattle.listing.specs.ListingLaws.{Listable}
 
@@ -55,7 +55,7 @@ line-fits q n k i l inside =
     let m = drawnExtended q n k i in
     let f = ferrersIndex q n k m in
     let below : f < gaussian q n k = ferrers-inside q n k i a inside in
-    let size = lineText-length i f (rowsText n k m) in
+    let size = lineWith-length i f (rowsText n k m) in
     let rows = rowsText-length n m k in
     ⊎-elim
     (λ whole.

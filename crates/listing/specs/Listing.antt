@@ -19,7 +19,6 @@ use Rattle.gaussian.specs.Settings.{settingsRefusal}
 use Rattle.extended.specs.Ranked.{drawnExtended}
 use Rattle.ferrers.specs.Ferrers.{ferrersIndex}
 use Rattle.text.specs.Text.{lineFeed, numeral}
-use Rattle.text.specs.Rows.{rowsText}
 use Rattle.text.specs.Line.{lineText}
 use Rattle.settings_line.specs.SettingsLine.{parsed}
 use Rattle.settings_line.specs.declared.Parsed.{Parsed}
@@ -32,7 +31,7 @@ unfoldable pub listRefusal : ℕ → ℕ → ℕ → ℕ
 listRefusal q n k = first (settingsRefusal q n k ∷ refuseUnless (leb (gaussian q n k) greatestListing) listingRefusal ∷ [])
 
 unfoldable pub listingLine : ℕ → ℕ → ℕ → ℕ → List ℕ
-listingLine q n k i = lineText i (ferrersIndex q n k (drawnExtended q n k i)) (rowsText n k (drawnExtended q n k i))
+listingLine q n k i = lineText i (ferrersIndex q n k (drawnExtended q n k i)) n k (drawnExtended q n k i)
 
 unfoldable pub linesFrom : ℕ → ℕ → ℕ → ℕ → ℕ → List ℕ
 linesFrom q n k i zero = []

@@ -22,7 +22,7 @@ use Rattle.gaussian.specs.SettingsLaws.{accepted}
 use Rattle.extended.specs.Ranked.{drawnExtended}
 use Rattle.ferrers.specs.Ferrers.{ferrersIndex}
 use Rattle.text.specs.Rows.{rowsText}
-use Rattle.text.specs.LineLaws.{lineText-length}
+use Rattle.text.specs.LineLaws.{lineWith-length}
 use Rattle.listing.specs.Listing.{greatestListing, listRefusal, listingLine, linesFrom}
 
 pub record Listable (q n k : ℕ) : Type 0 where
@@ -68,4 +68,4 @@ module _ (q n k : ℕ) where
   pub line-nonempty : (i : ℕ) → 1 ≤ length (listingLine q n k i)
   unfolding listingLine
   line-nonempty i =
-      omega (arith, lineText-length i (ferrersIndex q n k (drawnExtended q n k i)) (rowsText n k (drawnExtended q n k i)))
+      omega (arith, lineWith-length i (ferrersIndex q n k (drawnExtended q n k i)) (rowsText n k (drawnExtended q n k i)))

@@ -10,7 +10,7 @@ use lib.Seq.{take-at, paste}
 use Rattle.matrix.specs.Matrix.{Reduced}
 use Rattle.extended.specs.Ranked.{drawnExtended}
 use Rattle.ferrers.specs.Ferrers.{ferrersIndex}
-use Rattle.text.specs.Rows.{DigitRows, rowsText}
+use Rattle.text.specs.Rows.{DigitRows}
 use Rattle.text.specs.Line.{lineText}
 use Rattle.text.specs.RowsLaws.{size-bound}
 use Rattle.listing.specs.Listing.{listingLine}
@@ -64,13 +64,13 @@ numbered c =
 line : (c : tie.After-rank) →
     let f = c .before .before .before in
     let a = f .before .before .before .args in
-    lineText (a .index) (c .rank .result .0) (rowsText (a .n) (a .k) (take (a .k * a .n) (f .unrank .last .0 ++ drop (a .k * a .n) zeros)))
+    lineText (a .index) (c .rank .result .0) (a .n) (a .k) (take (a .k * a .n) (f .unrank .last .0 ++ drop (a .k * a .n) zeros))
     ≡ listingLine (a .q) (a .n) (a .k) (a .index)
 unfolding zeros listingLine
 line c =
     let f = c .before .before .before in
     let a = f .before .before .before .args in
-    ap₂ (λ i m. lineText (a .index) i (rowsText (a .n) (a .k) m)) (numbered c) (front f)
+    ap₂ (λ i m. lineText (a .index) i (a .n) (a .k) m) (numbered c) (front f)
 
 mul-size : tie.Need-mul-size
 mul-size c = omega (arith, short c)
