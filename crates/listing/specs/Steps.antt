@@ -1,5 +1,5 @@
 -- The listing written chunk by chunk: a state, what is still to be written in it, and one step. The settings in a state are tested anew at
--- each step, so that a state which no step made does no harm: it writes nothing that its settings do not allow.
+-- each step, so that a state which no step made does no harm: of settings that are refused no line is left.
 --   live p          == the settings of p are not refused
 --   linesEnd p      == the index up to which the next chunk lists: 64 lines more, or all
 --   remaining s     == all that is still to be written in the state s

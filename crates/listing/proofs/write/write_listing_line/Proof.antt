@@ -2,7 +2,7 @@
 -- numbered and written.
 use mathlib.Core.Path.{_≡_, _∙_, ap, ap₂, sym, subst}
 use mathlib.Core.List.{List, _++_}
-use Prim.Native.Nat.{ℕ, _*_, _≤_}
+use Prim.Native.Nat.{ℕ, _*_, _≤_, _<_}
 use native.Mathlib.Nat.{min-eq-left}
 use native.Mathlib.Omega.{arith}
 use lib.ListN.{length, take, drop, replicate, length-take, length-append}
@@ -119,10 +119,13 @@ write-line-requires c κs =
     let f = r .before .before .before in
     let s = f .before .before .before in
     let a = s .args in
-    let few = s .pre .0 .few in (
+    let few = s .pre .0 .few in
+    let first : a .index < 100000 = omega (arith, few, s .pre .1) in
+    let second : r .rank .result .0 < 100000 =
+    omega (arith, few, numbered r, ferrers-inside (a .q) (a .n) (a .k) (a .index) (s .pre .0 .settings) (s .pre .1)) in (
       s .pre .2,
-      omega (arith, few, s .pre .1),
-      omega (arith, few, numbered r, ferrers-inside (a .q) (a .n) (a .k) (a .index) (s .pre .0 .settings) (s .pre .1)),
+      omega arith,
+      omega arith,
       subst (DigitRows (a .n) (a .k)) (sym (front f)) (digit-rows (a .q) (a .n) (a .k) (a .index) (s .pre .0 .settings) (s .pre .1)),
     )
 
