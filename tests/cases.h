@@ -83,6 +83,17 @@ static inline size_t read_rows(const char *text, uint8_t *entries)
     return length;
 }
 
+/* Steps entries like an odometer, each up to the most; false when all have been seen, and they are zeros again. */
+static inline bool next_entries(uint64_t most, uint8_t *entries, size_t length)
+{
+    size_t place = 0;
+    while (place < length && entries[place] == most)
+        entries[place++] = 0;
+    if (place < length)
+        entries[place]++;
+    return place < length;
+}
+
 /* Whether all entries are below q; the field's calls take no others. */
 static inline bool entries_below(uint64_t q, const uint8_t *entries, size_t length)
 {
@@ -106,6 +117,16 @@ static inline void mix_rows(uint64_t q, uint64_t n, uint64_t count, const uint8_
     memset(mixture, 0, (size_t)n);
     for (uint64_t row = 0; row < count; row++)
         add_multiple(q, n, mixture, rows + row * n, factors[row]);
+}
+
+/* The dimension of the factors, r rows of k; the linear combinations have it too, as drawn rows are independent. */
+static inline uint64_t factor_rank(uint64_t q, uint64_t k, uint64_t r, const uint8_t *factors)
+{
+    uint8_t reduced[MAX_LENGTH * MAX_LENGTH];
+    uint64_t rank = 0;
+    if (k > 0)
+        second_reduce(q, k, r, factors, (size_t)(r * k), reduced, (size_t)(k * k), &rank);
+    return rank;
 }
 
 /* ---- Lent buffers ---- */

@@ -13,6 +13,18 @@ typedef struct {
     uint64_t dimension;
 } harness_answer;
 
+/* A receiver, field by field. */
+typedef struct {
+    uint8_t entries[256];
+    uint64_t q, n, k, dimension;
+} harness_receiver;
+
+/* What Start and Take leave: the receiver handed back, the refusal or 0, and 1 where the dimension grew. */
+typedef struct {
+    harness_receiver receiver;
+    uint32_t refusal, raised;
+} harness_step;
+
 /* An entry of the table of counts; 0 for a place of 1156 or more. */
 uint64_t harness_table_entry(uint64_t place);
 
@@ -25,5 +37,13 @@ harness_answer harness_convert(uint64_t q, uint64_t n, uint64_t k, uint64_t from
 
 harness_answer harness_reduce(uint64_t q, uint64_t n, uint64_t row_count, const uint8_t *rows, size_t rows_length,
                               uint8_t *out, size_t out_length);
+
+harness_step harness_start(uint64_t q, uint64_t n, uint64_t k);
+
+/* Take by value, and Take on a lent receiver, which is then handed back. */
+harness_step harness_take(harness_receiver receiver, const uint8_t *row, size_t length);
+harness_step harness_take_lent(harness_receiver receiver, const uint8_t *row, size_t length);
+
+harness_answer harness_close(harness_receiver receiver, uint64_t numbering);
 
 #endif

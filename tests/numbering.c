@@ -383,8 +383,8 @@ static void damage_figures_group(void)
 static void compare_all_matrices(uint64_t q, uint64_t n, uint64_t k)
 {
     uint8_t matrix[9] = {0};
-    size_t length = (size_t)(k * n), place = 0;
-    while (place < length) {
+    size_t length = (size_t)(k * n);
+    do {
         for (unsigned number = 0; number < 2; number++) {
             uint64_t index;
             uint32_t refusal = second_number(q, n, k, numberings[number], matrix, length, &index);
@@ -393,11 +393,7 @@ static void compare_all_matrices(uint64_t q, uint64_t n, uint64_t k)
                   "%" PRIu64 ",%" PRIu64 ",%" PRIu64 ": refusal %u, index %" PRIu64 " instead of %u, %" PRIu64,
                   q, n, k, answer.refusal, answer.value, refusal, index);
         }
-        for (place = 0; place < length && matrix[place] == q; place++)
-            matrix[place] = 0;
-        if (place < length)
-            matrix[place]++;
-    }
+    } while (next_entries(q, matrix, length));
 }
 
 static void all_matrices_group(void)

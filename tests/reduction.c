@@ -239,14 +239,9 @@ static void compare_list(const list *one)
 static void compare_every_list(uint64_t q, uint64_t n, uint64_t r)
 {
     list one = {q, n, r, {0}};
-    size_t length = length_of(&one), place;
-    do {
+    do
         compare_list(&one);
-        for (place = 0; place < length && one.rows[place] == q - 1; place++)
-            one.rows[place] = 0;
-        if (place < length)
-            one.rows[place]++;
-    } while (place < length);
+    while (next_entries(q - 1, one.rows, length_of(&one)));
 }
 
 static void every_list_group(uint64_t q, uint64_t n, uint64_t most)
@@ -258,16 +253,6 @@ static void every_list_group(uint64_t q, uint64_t n, uint64_t most)
 }
 
 /* ---- Round trip ---- */
-
-/* The dimension of the factors, r rows of k; the linear combinations have it too, as drawn rows are independent. */
-static uint64_t factor_rank(uint64_t q, uint64_t k, uint64_t r, const uint8_t *factors)
-{
-    uint8_t reduced[SQUARE];
-    uint64_t rank = 0;
-    if (k > 0)
-        second_reduce(q, k, r, factors, (size_t)(r * k), reduced, (size_t)(k * k), &rank);
-    return rank;
-}
 
 /* Draws, mixes at random and receives: the index again, or too few with the true dimension. */
 static void round_trip(const setting *s, uint64_t numbering, uint64_t r)

@@ -29,6 +29,7 @@ enum {
     REFUSED_TOO_MANY = 9,        /* the span has more than k dimensions */
     REFUSED_NUMBERING = 10,      /* the numbering is neither 1 nor 2 */
     REFUSED_ROW_COUNT = 13,      /* there are more than 64 rows */
+    REFUSED_RECEIVER = 14,       /* the receiver is none that Start and Take can leave */
     REFUSED_NO_COUNTERPART = 15  /* the drawn matrix has no number in the other numbering; never given here */
 };
 
@@ -71,6 +72,28 @@ uint32_t second_reduce(uint64_t q, uint64_t n, uint64_t r, const uint8_t *rows, 
 /* Receive: r rows to the index of their span. Refuses 1, 2, 3, 10, 13, 4, 6, 8, 9. */
 uint32_t second_receive(uint64_t q, uint64_t n, uint64_t k, uint64_t numbering, uint64_t r,
                         const uint8_t *rows, size_t rows_length, uint64_t *index, uint64_t *dimension);
+
+/* The second implementation's receiver: the rows that it accepted, r of them. All zeros after a refused start. */
+typedef struct {
+    uint64_t q, n, k, r;
+    uint8_t rows[MAX_ROWS * MAX_LENGTH];
+} second_receiver;
+
+/* Start: a receiver of no rows. Refuses 1, 2, 3. */
+uint32_t second_start(uint64_t q, uint64_t n, uint64_t k, second_receiver *receiver);
+
+/* Writes the reduced rows of the list, then zeros, 256 bytes in all, and answers the dimension. */
+uint64_t second_entries(const second_receiver *receiver, uint8_t *entries);
+
+/* Take, of at most 64 accepted rows; raised is 1 where the dimension grows. Refuses 4, 6. */
+uint32_t second_take(second_receiver *receiver, const uint8_t *row, size_t length, uint32_t *raised);
+
+/* Close: the index of the list's span. Refuses 10, 8, 9. */
+uint32_t second_close(const second_receiver *receiver, uint64_t numbering, uint64_t *index, uint64_t *dimension);
+
+/* Makes a receiver out of its dimension and its 256 entries. Refuses 14 where no list of rows leads to them. */
+uint32_t second_revive(uint64_t q, uint64_t n, uint64_t k, uint64_t dimension, const uint8_t *entries,
+                       second_receiver *receiver);
 
 /* The identifying vector of a reduced matrix: column j from the right has the value 2^(j-1). */
 uint32_t second_identifying_vector(uint64_t n, uint64_t k, const uint8_t *matrix);

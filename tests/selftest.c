@@ -1,6 +1,7 @@
 /*
  * Tests the second implementation against itself: the formulas against the sorted lists of all reduced matrices, the
- * tables against counting, the elimination against spans written out in full, and the figures of document 001.
+ * tables against counting, the elimination against spans written out in full, the receiver against the counts, and the
+ * figures of document 001.
  */
 #include "cases.h"
 #include "check.h"
@@ -263,6 +264,49 @@ static void refusals_group(void)
     check_group_end();
 }
 
+/* Of all fillings of d x n entries below q, those that a receiver can hold are as many as there are spaces. */
+static void revived_group(uint64_t q, uint64_t n)
+{
+    uint8_t entries[MAX_LENGTH * MAX_LENGTH] = {0};
+    second_receiver receiver;
+    check_group_begin("receivers, q = %" PRIu64 ", n = %" PRIu64, q, n);
+    for (uint64_t dimension = 0; dimension <= n; dimension++) {
+        uint64_t revived = 0, count;
+        do
+            revived += second_revive(q, n, 0, dimension, entries, &receiver) == ACCEPTED;
+        while (next_entries(q - 1, entries, (size_t)(dimension * n)));
+        second_count(q, n, dimension, &count);
+        check(revived == count, "%" PRIu64 " of dimension %" PRIu64, revived, dimension);
+    }
+    check_group_end();
+}
+
+static void receiver_figures_group(void)
+{
+    uint8_t rows[9], entries[MAX_LENGTH * MAX_LENGTH], expected[MAX_LENGTH * MAX_LENGTH] = {1, 0, 1, 0, 1, 1};
+    second_receiver receiver;
+    uint64_t index, dimension;
+    uint32_t raised;
+    check_group_begin("receiver figures");
+    read_rows("110/011/101", rows);
+    check(second_start(2, 16, 7, &receiver) == REFUSED_COUNT && receiver.q == 0, "refused start");
+    check(second_start(2, 3, 2, &receiver) == ACCEPTED, "start");
+    check(second_take(&receiver, rows, 3, &raised) == ACCEPTED && raised == 1, "110 is raised");
+    check(second_take(&receiver, rows, 2, &raised) == REFUSED_LENGTH && raised == 0, "two bytes");
+    check(second_close(&receiver, EXTENDED, &index, &dimension) == REFUSED_TOO_FEW && dimension == 1, "110 alone");
+    check(second_take(&receiver, rows + 3, 3, &raised) == ACCEPTED && raised == 1, "011 is raised");
+    check(second_take(&receiver, rows + 6, 3, &raised) == ACCEPTED && raised == 0, "101 is held");
+    check(second_close(&receiver, FERRERS, &index, &dimension) == ACCEPTED && index == 3, "the span's index");
+    check(second_entries(&receiver, entries) == 2 && memcmp(entries, expected, sizeof expected) == 0, "the entries");
+    check(second_revive(2, 3, 2, 2, entries, &receiver) == ACCEPTED && receiver.r == 2, "the same receiver");
+    check(second_revive(2, 3, 2, 1, entries, &receiver) == REFUSED_RECEIVER, "a row too many");
+    check(second_revive(2, 3, 2, 3, entries, &receiver) == REFUSED_RECEIVER, "a zero row");
+    check(second_revive(2, 3, 2, UINT64_MAX, entries, &receiver) == REFUSED_RECEIVER, "dimension 2^64 - 1");
+    entries[255] = 1;
+    check(second_revive(2, 3, 2, 2, entries, &receiver) == REFUSED_RECEIVER, "a nonzero last entry");
+    check_group_end();
+}
+
 static void table_groups(void)
 {
     for (unsigned place = 0; place < FIELD_COUNT; place++) {
@@ -291,5 +335,10 @@ int main(void)
     figures_group();
     order_figures_group();
     refusals_group();
+    revived_group(2, 3);
+    revived_group(3, 2);
+    revived_group(5, 2);
+    revived_group(7, 2);
+    receiver_figures_group();
     return check_summary("selftest");
 }

@@ -14,6 +14,7 @@ pub mod Digits
 pub mod TableValue
 pub mod SumLaws
 pub mod SumMore
+pub mod LookUp
 pub mod Lexicographic
 pub mod LexicographicRest
 pub mod MemberTable

@@ -4,6 +4,8 @@
 --   position-below, position-at == a member's place is below the length, and the member stands there
 --   position-none   == the place of what is no member
 --   position-member == a is a member exactly where its place is below the length
+--   member-next     == a member that is not the first stands in the rest
+--   member-last     == the member of a list of one
 --   forEach         == the test of a statement about every member
 -- Assumes nothing.
 use mathlib.Core.Path.{_≡_, refl, ap, subst, sym}
@@ -77,3 +79,17 @@ forEach P f (x ∷ xs) = forEach-step (forEach P f xs)
               either a (eqb a x) (eqb→eq a x) (f x .shows (and-left (f x .holds) (rest .holds) t))
               (rest .shows (and-right (f x .holds) (rest .holds) t) a) m;
         }
+
+pub member-next : (a x : ℕ) (xs : List ℕ) → T (member a (x ∷ xs)) → (a ≡ x → ⊥) → T (member a xs)
+member-next a x xs t other = step (eqb a x) t (eqb→eq a x)
+  where
+    step : (b : Bool) → T (pick b true (member a xs)) → (T b → a ≡ x) → T (member a xs)
+    step true t same = absurd (other (same tt))
+    step false t same = t
+
+pub member-last : (a x : ℕ) → T (member a (x ∷ [])) → a ≡ x
+member-last a x t = step (eqb a x) t (eqb→eq a x)
+  where
+    step : (b : Bool) → T (pick b true false) → (T b → a ≡ x) → a ≡ x
+    step true t same = same tt
+    step false t same = absurd t

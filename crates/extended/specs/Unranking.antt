@@ -2,8 +2,9 @@
 --   Unranking q n k i m c rows rest == the columns of m from c on are those of the matrix with the index i, and its first c columns are
 --                                      those of the matrix of `rows` rows with the index `rest`
 --   unranking-start, -end   == nothing is written yet, and all is
---   free-asked, write-asked == of the next column the count can be asked, and it can be written
+--   free-asked, write-asked, pivot-asked == of the next column the counts can be asked, and it can be written
 --   unranking-free, -pivot  == it is written, as a free one or as a pivot's
+--   each-is, pivot-counted  == the counts that the code goes on with
 --   each-positive, rows-positive == before a free column the count to divide by is above 0, before a pivot's a row is left
 -- Assumes nothing.
 use mathlib.Core.Path.{_≡_, _∙_}
@@ -12,13 +13,13 @@ use Prim.Native.Nat.{ℕ, zero, suc, _*_, _-_, _^_, _/_, _%_, _<_, _≤_}
 use native.Mathlib.Nat.{le-refl, le-trans, mod-lt, zero-lt-suc}
 use native.Mathlib.Omega.{arith}
 use lib.Dec.{T}
-use lib.ListN.{length}
+use lib.ListN.{length, replicate}
 use Rattle.field.specs.Field.{isFieldSize}
 use Rattle.field.specs.Small.{size-small}
-use Rattle.matrix.specs.Written.{digitAt, Written}
-use Rattle.matrix.specs.Drawing.{Drawing, drawing-start, drawing-free, drawing-pivot, drawing-end}
+use Rattle.matrix.specs.Written.{digitAt, unitAt, Blank, Written}
+use Rattle.matrix.specs.Drawing.{Drawing, drawing-start, drawing-blank, drawing-free, drawing-pivot, drawing-end}
 use Rattle.gaussian.specs.Gaussian.{gaussian, greatestCount, tableEntry}
-use Rattle.gaussian.specs.Laws.{gaussian-longer-le, gaussian-pivot-le}
+use Rattle.gaussian.specs.Laws.{withPivot, gaussian-longer-le, gaussian-pivot-le}
 use Rattle.gaussian.specs.Settings.{Accepted}
 use Rattle.gaussian.specs.SettingsLaws.{entry-within}
 use Rattle.extended.specs.Ranked.{extendedShape, drawnExtended}
@@ -31,7 +32,7 @@ pub record Unranking (q n k i : ℕ) (m : List ℕ) (c rows rest : ℕ) : Type 0
   pub count : gaussian q c rows ≤ gaussian q n k
   pub drawing : Drawing q n k (extendedShape q n k i) m c rows (extendedShape q c rows rest)
 
-pub unranking-start : (q n k i : ℕ) (m : List ℕ) → i < gaussian q n k → length m ≡ k * n → Unranking q n k i m n k i
+pub unranking-start : (q n k i : ℕ) (m : List ℕ) → i < gaussian q n k → m ≡ replicate (k * n) 0 → Unranking q n k i m n k i
 unranking-start q n k i m h e =
     record { columns = le-refl n; few = le-refl k; within = h; count = le-refl (gaussian q n k); drawing = drawing-start q n k _ m e }
 
@@ -45,11 +46,11 @@ row-left : (q c rows rest : ℕ) → rest < gaussian q (suc c) rows → q ^ rows
 row-left q c zero rest h b = absurd (no-row-free q c rest h b)
 row-left q c (suc rows) rest h b = zero-lt-suc rows
 
-pivot-step : (q n k i : ℕ) (m m′ : List ℕ) (c rows rest : ℕ) → 1 < q → Unranking q n k i m (suc c) rows rest
-    → q ^ rows * gaussian q c rows ≤ rest → Written n k c (digitAt q rows 1) m m′
+pivot-step : (q n k i : ℕ) (m m′ : List ℕ) (c rows rest : ℕ) → Unranking q n k i m (suc c) rows rest
+    → q ^ rows * gaussian q c rows ≤ rest → Written n k c (unitAt (rows - 1)) m m′
     → Unranking q n k i m′ c (rows - 1) (rest - q ^ rows * gaussian q c rows)
-pivot-step q n k i m m′ c zero rest h u b w = absurd (no-row-free q c rest (u .within) b)
-pivot-step q n k i m m′ c (suc rows) rest h u b w =
+pivot-step q n k i m m′ c zero rest u b w = absurd (no-row-free q c rest (u .within) b)
+pivot-step q n k i m m′ c (suc rows) rest u b w =
     let e : suc rows - 1 ≡ rows = omega arith in
     rw e
     (record {
@@ -57,8 +58,13 @@ pivot-step q n k i m m′ c (suc rows) rest h u b w =
       few = omega (arith, u .few);
       within = after-free q c rows rest (u .within) b;
       count = le-trans (gaussian-pivot-le q c rows) (u .count);
-      drawing = drawing-pivot q n k c _ m m′ (u .columns) rows _ h (rw (shape-pivot q c (suc rows) rest b) at (u .drawing)) w;
+      drawing = drawing-pivot q n k c _ m m′ (u .columns) rows _ (rw (shape-pivot q c (suc rows) rest b) at (u .drawing)) (rw e at w);
     })
+
+row-less : (q c rows : ℕ) → 0 < rows → withPivot q c rows ≡ gaussian q c (rows - 1)
+unfolding withPivot
+row-less q c zero h = absurd (omega arith)
+row-less q c (suc rows) h = let e : suc rows - 1 ≡ rows = omega arith in rw e
 
 -- the columns that are left are c and those before it
 module _ {q n k i columns c rows rest : ℕ} {m : List ℕ} (a : Accepted q n k) (all : Unranking q n k i m columns rows rest)
@@ -70,10 +76,10 @@ module _ {q n k i columns c rows rest : ℕ} {m : List ℕ} (a : Accepted q n k)
   free-asked =
       (a .size, omega (arith, u .columns, a .narrow), omega (arith, u .few, a .dimension, a .narrow), le-trans (u .count) (a .counted))
 
-  pub write-asked : (0 < q) × (q ≤ 256) × (c < n) × (rows ≤ k) × (k * n ≤ length m)
+  pub write-asked : (0 < q) × (q ≤ 256) × (c < n) × (rows ≤ k) × (k * n ≤ length m) × Blank n k c rows m
   write-asked =
       let size = size-small q (a .size) in
-      (omega arith, omega arith, u .columns, u .few, omega (arith, u .drawing .sized))
+      (omega arith, omega arith, u .columns, u .few, omega (arith, u .drawing .sized), drawing-blank rows (u .drawing))
 
   shorter : gaussian q c rows ≤ gaussian q n k
   shorter = let size = size-small q (a .size) in le-trans (gaussian-longer-le q c rows (omega arith)) (u .count)
@@ -81,7 +87,7 @@ module _ {q n k i columns c rows rest : ℕ} {m : List ℕ} (a : Accepted q n k)
   -- those with no pivot in the column c are `free`, `each` for each value of the column
   module _ (free : ℕ) (fe : free ≡ q ^ rows * gaussian q c rows) where
     module _ (each : ℕ) (te : each ≡ tableEntry q c rows) (b : rest < free) where
-      each-is : each ≡ gaussian q c rows
+      pub each-is : each ≡ gaussian q c rows
       each-is = te ∙ entry-within q c rows (le-trans shorter (a .counted))
 
       first : rest < q ^ rows * gaussian q c rows
@@ -105,5 +111,11 @@ module _ {q n k i columns c rows rest : ℕ} {m : List ℕ} (a : Accepted q n k)
       pub rows-positive : 0 < rows
       rows-positive = row-left q c rows rest (u .within) (rw fe at b)
 
-      pub unranking-pivot : {m′ : List ℕ} → Written n k c (digitAt q rows 1) m m′ → Unranking q n k i m′ c (rows - 1) (rest - free)
-      unranking-pivot {m′} w = rw fe (pivot-step q n k i m m′ c rows rest (size-small q (a .size) .0) u (rw fe at b) w)
+      pub pivot-asked : (c < n) × (rows - 1 < k) × (k * n ≤ length m) × Blank n k c 0 m
+      pivot-asked = (u .columns, omega (arith, rows-positive, u .few), omega (arith, u .drawing .sized), drawing-blank 0 (u .drawing))
+
+      pub unranking-pivot : {m′ : List ℕ} → Written n k c (unitAt (rows - 1)) m m′ → Unranking q n k i m′ c (rows - 1) (rest - free)
+      unranking-pivot {m′} w = rw fe (pivot-step q n k i m m′ c rows rest u (rw fe at b) w)
+
+      pub pivot-counted : (part : ℕ) → part ≡ withPivot q c rows → part ≡ gaussian q c (rows - 1)
+      pivot-counted part e = e ∙ row-less q c rows rows-positive

@@ -1,14 +1,13 @@
--- The tables that the code reads, as definitions: partition counts and powers; no part of the meaning.
+-- The partition counts of all boxes, row by row; no part of the meaning.
 --   level n              == for each k of 0 to n the list p(k, n-k, 0), p(k, n-k, 1), .. , p(k, n-k, k(n-k)), from the level before
 --   level-at             == its entries are the partition counts
 --   boxTable, boxOffset  == for each n and k of 0 to 16 such a list, one after the other, and where it begins
---   powerEntry i         == the power at place i of the table of powers; 0 where it is above 2^64 - 1
 -- Assumes nothing.
 use mathlib.Core.Path.{_≡_, refl, ap, ap₂, _∙_, sym}
 use mathlib.Core.Bool.{Bool, true, false}
 use mathlib.Core.Logic.{⊎-elim}
 use mathlib.Core.List.{List, [], _∷_, _++_}
-use Prim.Native.Nat.{ℕ, zero, suc, _+_, _*_, _-_, _^_, _/_, _%_, _≤_, _<_, zero-le}
+use Prim.Native.Nat.{ℕ, zero, suc, _+_, _*_, _-_, _/_, _%_, _≤_, _<_, zero-le}
 use native.Mathlib.Nat.{add-zero, zero-add, add-suc, suc-add, sub-zero}
 use native.Mathlib.Omega.{arith}
 use borrow.Author.Tests.{le-leb, lt-leb, ne-eqb}
@@ -19,8 +18,6 @@ use Rattle.basics.specs.Choice.{pick}
 use Rattle.basics.specs.Order.{le-or-lt}
 use Rattle.basics.specs.Ragged.{ragged}
 use Rattle.basics.specs.Sum.{sum}
-use Rattle.field.specs.Field.{fieldSizes}
-use Rattle.gaussian.specs.Gaussian.{capped}
 use Rattle.ferrers.specs.Partitions.{partitionsLess}
 use Rattle.ferrers.specs.Ranked.{boxCount}
 use Rattle.ferrers.specs.Box.{box-no-row}
@@ -120,6 +117,3 @@ boxTable = ragged boxRow 0 289
 
 unfoldable pub boxOffset : ℕ → ℕ
 boxOffset t = sum t boxSize
-
-unfoldable pub powerEntry : ℕ → ℕ
-powerEntry i = capped (getD fieldSizes (i / 65) 0 ^ (i % 65))

@@ -19,6 +19,7 @@ pub mod Rising
 pub mod BeforeLaws
 pub mod Theorems
 pub mod BoxTable
+pub mod Packed
 pub mod Weights
 pub mod Counting
 pub mod Parts

@@ -2,7 +2,7 @@
 --   Unranking q n k S m c rows left place tableau == the columns of m from c on are those of the matrix with the shape S, and its first c
 --                            columns are those of the matrix of `rows` rows with this tableau, whose diagram of `left` dots has this place
 --   unranking-start, -end  == nothing is written yet, and all is
---   write-asked            == the next column can be written
+--   write-asked, pivot-asked == the next column can be written
 --   free-next              == where the place is among the diagrams that begin with a free column, that column's dots are there
 --   rows-left              == where it is not, a row is left for the pivot
 --   unranking-free, -pivot == one more column is written, as a free one or as a pivot's
@@ -13,12 +13,12 @@ use Prim.Native.Nat.{ℕ, zero, suc, _*_, _-_, _^_, _/_, _%_, _<_, _≤_}
 use native.Mathlib.Nat.{le-refl, le-of-eq}
 use native.Mathlib.Omega.{arith}
 use borrow.Author.Tests.{lt-ltb, le-ltb}
-use lib.ListN.{length}
+use lib.ListN.{length, replicate}
 use Rattle.field.specs.Small.{size-small}
 use Rattle.gaussian.specs.Settings.{Accepted}
-use Rattle.matrix.specs.Drawing.{Drawing, drawing-start, drawing-free, drawing-pivot, drawing-end}
+use Rattle.matrix.specs.Drawing.{Drawing, drawing-start, drawing-blank, drawing-free, drawing-pivot, drawing-end}
 use Rattle.matrix.specs.Shape.{Shape, free, pivot, cell, flatten}
-use Rattle.matrix.specs.Written.{digitAt, Written}
+use Rattle.matrix.specs.Written.{digitAt, unitAt, Blank, Written}
 use Rattle.ferrers.specs.Box.{box-next, free-all}
 use Rattle.ferrers.specs.DiagramShape.{free-fits}
 use Rattle.ferrers.specs.Less.{less-at}
@@ -31,7 +31,7 @@ pub record Unranking (q n k : ℕ) (S : Shape) (m : List ℕ) (c rows left place
   pub within : place < boxCount c rows left
   pub drawing : Drawing q n k S m c rows (diagramShape q c rows left place tableau)
 
-pub unranking-start : (q n k size place tableau : ℕ) (m : List ℕ) → size ≤ k * (n - k) → place < boxCount n k size → length m ≡ k * n
+pub unranking-start : (q n k size place tableau : ℕ) (m : List ℕ) → size ≤ k * (n - k) → place < boxCount n k size → m ≡ replicate (k * n) 0
     → Unranking q n k (diagramShape q n k size place tableau) m n k size place tableau
 unranking-start q n k size place tableau m room b e =
     record { columns = le-refl n; few = le-refl k; room = room; within = b; drawing = drawing-start q n k _ m e }
@@ -42,11 +42,16 @@ unranking-end {q} {n} {k} {c} {rows} {left} {place} {tableau} {S} {m} z u =
     drawing-end q n k rows S (diagramShape q 0 rows left place tableau) m
     (subst (λ j. Drawing q n k S m j rows (diagramShape q j rows left place tableau)) z (u .drawing))
 
-pub write-asked : {q n k c rows left place tableau : ℕ} {S : Shape} {m : List ℕ} → Accepted q n k → 0 < c
-    → Unranking q n k S m c rows left place tableau → (0 < q) × (q ≤ 256) × (c - 1 < n) × (rows ≤ k) × (k * n ≤ length m)
-write-asked {q} a some u =
+blank-next : {q n k c rows left place tableau : ℕ} {S : Shape} {m : List ℕ} (from : ℕ) → 0 < c
+    → Unranking q n k S m c rows left place tableau → Blank n k (c - 1) from m
+blank-next {c} from some u i h l = u .drawing .blank i (c - 1) l (omega arith)
+
+pub write-asked : {q n k c rows left place tableau : ℕ} {S : Shape} {m : List ℕ} → Accepted q n k → (next : 0 < c)
+    → Unranking q n k S m c rows left place tableau
+    → (0 < q) × (q ≤ 256) × (c - 1 < n) × (rows ≤ k) × (k * n ≤ length m) × Blank n k (c - 1) rows m
+write-asked {q} {c} {rows} a some u =
     let (big, small) = size-small q (a .size) in
-    (omega arith, omega arith, omega (arith, u .columns), u .few, le-of-eq (sym (u .drawing .sized)))
+    (omega arith, omega arith, omega (arith, u .columns), u .few, le-of-eq (sym (u .drawing .sized)), blank-next rows some u)
 
 shape-free : (q c rows left place tableau : ℕ) → place < freeCount c rows left
     → diagramShape q (suc c) rows left place tableau
@@ -76,11 +81,11 @@ module _ {q n k c rows left place tableau : ℕ} {S : Shape} {m : List ℕ} (u :
         drawing = drawing-free q n k c S m m′ (u .columns) rows _ _ (rw (shape-free q c rows left place tableau h) at (u .drawing)) w;
       }
 
-pivot-step : {q n k c left place tableau : ℕ} {S : Shape} {m : List ℕ} (rows : ℕ) (m′ : List ℕ) → 1 < q
-    → Unranking q n k S m (suc c) rows left place tableau → freeCount c rows left ≤ place → Written n k c (digitAt q rows 1) m m′
+pivot-step : {q n k c left place tableau : ℕ} {S : Shape} {m : List ℕ} (rows : ℕ) (m′ : List ℕ)
+    → Unranking q n k S m (suc c) rows left place tableau → freeCount c rows left ≤ place → Written n k c (unitAt (rows - 1)) m m′
     → Unranking q n k S m′ c (rows - 1) left (place - freeCount c rows left) tableau
-pivot-step {c} {left} {place} zero m′ big u h w = absurd (omega (arith, row-left c 0 left place (u .within) h))
-pivot-step {q} {n} {k} {c} {left} {place} {tableau} {S} {m} (suc rows) m′ big u h w =
+pivot-step {c} {left} {place} zero m′ u h w = absurd (omega (arith, row-left c 0 left place (u .within) h))
+pivot-step {q} {n} {k} {c} {left} {place} {tableau} {S} {m} (suc rows) m′ u h w =
     let e : suc rows - 1 ≡ rows = omega arith in
     rw e
     (record {
@@ -88,7 +93,7 @@ pivot-step {q} {n} {k} {c} {left} {place} {tableau} {S} {m} (suc rows) m′ big 
       few = omega (arith, u .few);
       room = u .room;
       within = omega (arith, box-next c rows left, u .within);
-      drawing = drawing-pivot q n k c S m m′ (u .columns) rows _ big (rw (shape-pivot q c rows left place tableau h) at (u .drawing)) w;
+      drawing = drawing-pivot q n k c S m m′ (u .columns) rows _ (rw (shape-pivot q c rows left place tableau h) at (u .drawing)) (rw e at w);
     })
 
 -- the column that is written is left of c, and f is the count that the code compares with
@@ -109,7 +114,11 @@ module _ {q n k c rows left place tableau : ℕ} {S : Shape} {m : List ℕ} (som
       subst (λ y. Unranking q n k S m′ (c - 1) rows (left - rows) place (tableau % y)) (sym power)
       (free-step here m′ (omega arith) (subst (λ y. Written n k (c - 1) (digitAt q rows (tableau / y)) m m′) power w))
 
-  pub unranking-pivot : (m′ : List ℕ) → 1 < q → f ≤ place → Written n k (c - 1) (digitAt q rows 1) m m′
+  pub pivot-asked : f ≤ place → (c - 1 < n) × (rows - 1 < k) × (k * n ≤ length m) × Blank n k (c - 1) 0 m
+  pivot-asked h =
+      (omega (arith, u .columns), omega (arith, rows-left h, u .few), le-of-eq (sym (u .drawing .sized)), blank-next 0 some u)
+
+  pub unranking-pivot : (m′ : List ℕ) → f ≤ place → Written n k (c - 1) (unitAt (rows - 1)) m m′
       → Unranking q n k S m′ (c - 1) (rows - 1) left (place - f) tableau
-  unranking-pivot m′ big h w =
-      subst (λ y. Unranking q n k S m′ (c - 1) (rows - 1) left (place - y) tableau) (sym counted) (pivot-step rows m′ big here (omega arith) w)
+  unranking-pivot m′ h w =
+      subst (λ y. Unranking q n k S m′ (c - 1) (rows - 1) left (place - y) tableau) (sym counted) (pivot-step rows m′ here (omega arith) w)

@@ -1,5 +1,5 @@
 // The Ferrers numbering.
-mod table;
+mod lookup;
 
 ghost use mathlib.Core.Path.{_≡_};
 ghost use Prim.Native.Nat.{ℕ, _*_, _-_, _^_, _≤_, _<_};
@@ -12,24 +12,39 @@ ghost use Rattle.matrix.specs.Matrix.{identifying, Reduced};
 ghost use Rattle.matrix.specs.Shape.{cell, flatten};
 ghost use Rattle.ferrers.specs.Ferrers.{size, diagram, diagramPlace, tableauValue, largerDiagrams, ferrersIndex};
 ghost use Rattle.ferrers.specs.Ranked.{boxCount, freeCount, diagramShape, drawnFerrers};
+ghost use Rattle.ferrers.specs.Packed.{shorter as shorterSide, nearer as nearerEnd, packed as packedCount};
 ghost use Rattle.ferrers.specs.Searching.{Found};
-use table::BOXES;
-use table::OFFSETS;
-use table::POWERS;
 
 // An index of the Ferrers numbering; it never stands for an extended index.
 pub struct FerrersIndex(pub u64);
 
-fn place(x: u16) -> usize
-    ensures { λ r. ⌜ r ≡ x ⌝ }
+// The shorter side of the box of k rows and n - k columns.
+fn shorter(n: usize, k: usize) -> usize
+    requires { ⌜ (n ≤ 16) × (k ≤ n) ⌝ }
+    ensures { λ r. ⌜ r ≡ shorterSide n k ⌝ }
 {
-    x as usize
+    if k + k <= n {
+        return k;
+    }
+    n - k
 }
 
-fn number(x: u16) -> u64
-    ensures { λ r. ⌜ r ≡ x ⌝ }
+// m or limit - m, whichever is nearer to an end of 0 to limit.
+fn nearer(limit: usize, m: usize) -> usize
+    requires { ⌜ (limit ≤ 256) × (m ≤ limit) ⌝ }
+    ensures { λ r. ⌜ r ≡ nearerEnd limit m ⌝ }
 {
-    x as u64
+    if m + m <= limit {
+        return m;
+    }
+    limit - m
+}
+
+// The i-th of the packed partition counts.
+fn packed(i: u64) -> u64
+    ensures { λ r. ⌜ r ≡ packedCount i ⌝ }
+{
+    (lookup::word(i / 6) >> (i % 6 * 10)) % 1024
 }
 
 // p(k, n-k, m), the number of Ferrers diagrams of m dots in a box of k rows and n - k columns; 0 where there is no such box or no room.
@@ -40,19 +55,25 @@ fn box_count(n: usize, k: usize, m: usize) -> u64
     if n < k {
         return 0;
     }
-    if k * (n - k) < m {
+    let limit = k * (n - k);
+    if limit < m {
         return 0;
     }
-    let row = place(OFFSETS[n * 17 + k]);
-    number(BOXES[row + m])
+    let begin = lookup::begin((n * 9 + shorter(n, k)) as u64);
+    packed(begin + nearer(limit, m) as u64)
 }
 
-// q^m, from the table.
+// q^m.
 fn power(q: u64, m: usize) -> u64
     requires { ⌜ T (isFieldSize q) × (m ≤ 64) × (q ^ m ≤ greatestCount) ⌝ }
     ensures { λ r. ⌜ r ≡ q ^ m ⌝ }
 {
-    POWERS[field::place(q) * 65 + m]
+    match q {
+        2 => 1u64 << m,
+        3 => lookup::of_three(m as u64),
+        5 => lookup::of_five(m as u64),
+        _ => lookup::of_seven(m as u64),
+    }
 }
 
 // The diagrams of m dots that begin with a free column of k dots, n columns being left after it.
@@ -192,6 +213,7 @@ fn draw(m: &mut [u8], q: u64, n: usize, k: usize, size: usize, place: u64, table
     requires { ⌜ Accepted q n k × (size ≤ k * (n - k)) × (place < boxCount n k size) × (length (now m) ≡ k * n) ⌝ }
     ensures { λ _. ⌜ now (m .exit) ≡ flatten k n (cell q (diagramShape q n k size place tableau) k n) ⌝ }
 {
+    matrix::clear(m);
     let mut dots = size;
     let mut earlier = place;
     let mut entries = tableau;
@@ -202,11 +224,11 @@ fn draw(m: &mut [u8], q: u64, n: usize, k: usize, size: usize, place: u64, table
         let free = free_boxes(c, rows, dots);
         if earlier < free {
             let base = power(q, dots - rows);
-            matrix::write_column(m, q, n, k, c, rows, entries / base);
+            matrix::write_digits(m, q, n, k, c, rows, entries / base);
             entries = entries % base;
             dots -= rows;
         } else {
-            matrix::write_column(m, q, n, k, c, rows, 1);
+            matrix::write_pivot(m, n, k, c, rows - 1);
             earlier -= free;
             rows -= 1;
         }

@@ -1,4 +1,4 @@
--- The table of inverses: its rule, by one computed test, and that it is read within its 40 entries whatever q and a are.
+-- The list of inverses: its rule, and that it is read within its 40 entries whatever q and a are.
 use mathlib.Core.Path.{_≡_, refl, ap, ap₂, _∙_, sym}
 use mathlib.Core.Bool.{false}
 use mathlib.Core.Logic.{⊎-elim}
@@ -11,18 +11,11 @@ use lib.ListN.{getD}
 use Rattle.basics.specs.Choice.{pick}
 use Rattle.basics.specs.Test.{below, always, _⊛_}
 use Rattle.basics.specs.Member.{position, position-below, position-at, position-none, forEach}
-use Rattle.basics.specs.Table.{tabulate, table-at}
+use Rattle.basics.specs.Table.{table-at}
 use Rattle.field.specs.Field.{fieldSizes, isFieldSize, orZero, multiply, inverseFrom, invert}
+use Rattle.field.specs.Inverses.{inverseBelow, entry, inverses}
 use Rattle.field.specs.InField.{in-field}
 use Rattle.field.proofs.Sizes.{size-or-none}
-
--- the inverse of a, if a is below q
-abbrev inverseBelow : ℕ → ℕ → ℕ
-inverseBelow q a = pick (ltb a q) (invert q a) 0
-
--- what stands at place i: the inverse of i % 8 in the field of part i / 8
-unfoldable pub entry : ℕ → ℕ
-entry i = inverseBelow (getD fieldSizes (i / 8) 0) (i % 8)
 
 size-small : (q : ℕ) → T (isFieldSize q) → (0 < q) × (q < 8)
 unfolding isFieldSize
@@ -77,8 +70,8 @@ entry-at p r h =
     ap₂ (λ x y. inverseBelow (getD fieldSizes x 0) y) d m
 
 -- the rule at the place where the code reads
-pub inverse-at : (q a : ℕ) → getD (tabulate entry 0 40) (position q fieldSizes * 8 + orZero q (a % q)) 0 ≡ orZero q (invert q a)
-unfolding invert isFieldSize
+pub inverse-at : (q a : ℕ) → getD inverses (position q fieldSizes * 8 + orZero q (a % q)) 0 ≡ orZero q (invert q a)
+unfolding invert isFieldSize inverses
 inverse-at q a =
     table-at entry 40 _ (place-within q a .within) ∙ entry-at (position q fieldSizes) (orZero q (a % q)) (place-within q a .element)
     ∙ ⊎-elim yes-size no-size (size-or-none q)

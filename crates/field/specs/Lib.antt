@@ -3,4 +3,5 @@ pub mod Field
 pub mod Laws
 pub mod Decide
 pub mod Small
+pub mod Inverses
 pub mod InField

@@ -2,7 +2,9 @@
 // size the answer is 0, and a byte of q or more counts as its remainder by q.
 ghost use mathlib.Core.Path.{_≡_};
 ghost use Prim.Native.Nat.{_%_};
+ghost use lib.ListN.{getD};
 ghost use Rattle.basics.specs.Member.{position};
+ghost use Rattle.field.specs.Inverses.{inverses};
 ghost use Rattle.field.specs.Field.{fieldSizes, isFieldSize, orZero, add as sum, multiply as product, negate as negative, invert as inverse};
 
 // The place of q's part in a table with a part for each field size; 4 where q is none.
@@ -67,54 +69,59 @@ pub fn negate(q: u64, a: u8) -> u8
     }
 }
 
-// A part of eight for each field size: what stands at a is the inverse of a. The last part is for any other q.
-const INVERSES: [u8; 40] = [
-    0,
-    1, // of 1 modulo 2
-    0,
-    0,
-    0,
-    0,
-    0,
-    0,
-    0,
-    1, // of 1 modulo 3
-    2, // of 2 modulo 3
-    0,
-    0,
-    0,
-    0,
-    0,
-    0,
-    1, // of 1 modulo 5
-    3, // of 2 modulo 5
-    2, // of 3 modulo 5
-    4, // of 4 modulo 5
-    0,
-    0,
-    0,
-    0,
-    1, // of 1 modulo 7
-    4, // of 2 modulo 7
-    5, // of 3 modulo 7
-    2, // of 4 modulo 7
-    3, // of 5 modulo 7
-    6, // of 6 modulo 7
-    0,
-    0,
-    0,
-    0,
-    0,
-    0,
-    0,
-    0,
-    0,
-];
+// Inverses, a part of eight for each field size. The compiler makes a read-only table of the `match`.
+fn inverse_at(at: u64) -> u8
+    ensures { λ r. ⌜ r ≡ getD inverses at 0 ⌝ }
+{
+    match at {
+        0 => 0,
+        1 => 1, // of 1 modulo 2
+        2 => 0,
+        3 => 0,
+        4 => 0,
+        5 => 0,
+        6 => 0,
+        7 => 0,
+        8 => 0,
+        9 => 1, // of 1 modulo 3
+        10 => 2, // of 2 modulo 3
+        11 => 0,
+        12 => 0,
+        13 => 0,
+        14 => 0,
+        15 => 0,
+        16 => 0,
+        17 => 1, // of 1 modulo 5
+        18 => 3, // of 2 modulo 5
+        19 => 2, // of 3 modulo 5
+        20 => 4, // of 4 modulo 5
+        21 => 0,
+        22 => 0,
+        23 => 0,
+        24 => 0,
+        25 => 1, // of 1 modulo 7
+        26 => 4, // of 2 modulo 7
+        27 => 5, // of 3 modulo 7
+        28 => 2, // of 4 modulo 7
+        29 => 3, // of 5 modulo 7
+        30 => 6, // of 6 modulo 7
+        31 => 0,
+        32 => 0,
+        33 => 0,
+        34 => 0,
+        35 => 0,
+        36 => 0,
+        37 => 0,
+        38 => 0,
+        39 => 0,
+        _ => 0,
+    }
+}
 
 pub fn invert(q: u64, a: u8) -> u8
     ensures { λ r. ⌜ r ≡ orZero q (inverse q a) ⌝ }
 {
-    let part = place(q);
-    let at = remainder(q, a as u16) as usize;
-    INVERSES[part * 8 + at]
+    let part = place(q) as u64;
+    let at = remainder(q, a as u16) as u64;
+    inverse_at(part * 8 + at)
 }

@@ -3,7 +3,8 @@
 --   gaussian-whole      == 1 at k = n
 --   gaussian-positive   == above 0 at k ≤ n
 --   gaussian-free-le    == q^k [n-1, k] ≤ [n, k]
---   gaussian-free       == formula (4), told from its end: q^k [n-1, k] = [n, k] - [n-1, k-1]
+--   withPivot q n k     == the second term of formula (4) for [n + 1, k]: [n, k-1], and 0 at k = 0
+--   gaussian-split      == formula (4), at k = 0 too
 --   gaussian-pivot-le   == [n-1, k-1] ≤ [n, k]
 --   gaussian-longer-le  == [n-1, k] ≤ [n, k], for q above 0
 --   gaussian-dual       == [n, k] = [n-1, k] + q^(n-k) [n-1, k-1]
@@ -25,13 +26,16 @@ use native.Mathlib.Nat.{
   le-trans,
   one-le-pow,
   zero-lt-suc,
-  add-sub-cancel,
   add-sub-of-le,
   le-refl,
   mul-le-mul-right,
 }
 use native.Mathlib.Omega.{arith}
 use Rattle.gaussian.specs.Gaussian.{gaussian}
+
+unfoldable pub withPivot : ℕ → ℕ → ℕ → ℕ
+withPivot q n zero = 0
+withPivot q n (suc k) = gaussian q n k
 
 pub gaussian-none : (q n k : ℕ) → n < k → gaussian q n k ≡ 0
 unfolding gaussian
@@ -50,13 +54,10 @@ unfolding gaussian
 gaussian-free-le q n zero = rw (pow-zero, mul-one) (le-refl 1)
 gaussian-free-le q n (suc k) = le-add-right (q ^ suc k * gaussian q n (suc k)) (gaussian q n k)
 
-pub gaussian-free : (q n k : ℕ) → gaussian q (suc n) (suc k) - gaussian q n k ≡ q ^ suc k * gaussian q n (suc k)
-unfolding gaussian
-gaussian-free q n k = add-sub-cancel (q ^ suc k * gaussian q n (suc k)) (gaussian q n k)
-
-pub gaussian-none-free : (q n : ℕ) → q ^ 0 * gaussian q n 0 ≡ 1
-unfolding gaussian
-gaussian-none-free q n = rw pow-zero
+pub gaussian-split : (q n k : ℕ) → gaussian q (suc n) k ≡ q ^ k * gaussian q n k + withPivot q n k
+unfolding gaussian withPivot
+gaussian-split q n zero = rw pow-zero
+gaussian-split q n (suc k) = refl
 
 pub gaussian-longer-le : (q n k : ℕ) → 0 < q → gaussian q n k ≤ gaussian q (suc n) k
 gaussian-longer-le q n k h =

@@ -1,4 +1,5 @@
 // The number of spaces, and the settings that are accepted.
+mod lookup;
 mod table;
 
 ghost use mathlib.Core.Path.{_≡_};
@@ -6,6 +7,7 @@ ghost use Prim.Native.Nat.{suc, _*_, _^_, _≤_, _<_};
 ghost use lib.Dec.{T};
 ghost use Rattle.field.specs.Field.{isFieldSize};
 ghost use Rattle.gaussian.specs.Gaussian.{gaussian, greatestCount, tableEntry};
+ghost use Rattle.gaussian.specs.Laws.{withPivot};
 ghost use Rattle.gaussian.specs.Settings.{rowLengthOk, settingsRefusal, countOf};
 use table::COUNTS;
 
@@ -15,14 +17,31 @@ pub enum Counted {
     Refused(u32),
 }
 
-// The Gaussian coefficient of n and k, from the table; 0 where it is above 2^64 - 1.
-pub fn coefficient(q: u64, n: u64, k: u64) -> u64
+// The table's entry for q, n and k: the Gaussian coefficient, 0 where it is above 2^64 - 1.
+pub fn table_entry(q: u64, n: u64, k: u64) -> u64
     requires { ⌜ T (isFieldSize q) × (n ≤ 16) × (k ≤ 16) ⌝ }
     ensures { λ r. ⌜ r ≡ tableEntry q n k ⌝ }
 {
     let part = field::place(q);
     let at = (part * 17 + n as usize) * 17 + k as usize;
     COUNTS[at]
+}
+
+// The same number without the table's copy on the stack.
+pub fn coefficient(q: u64, n: u64, k: u64) -> u64
+    requires { ⌜ T (isFieldSize q) × (n ≤ 16) × (k ≤ 16) ⌝ }
+    ensures { λ r. ⌜ r ≡ tableEntry q n k ⌝ }
+{
+    if k > n {
+        return 0;
+    }
+    let at = n * (n + 1) / 2 + k;
+    match q {
+        2 => lookup::of_two(at),
+        3 => lookup::of_three(at),
+        5 => lookup::of_five(at),
+        _ => lookup::of_seven(at),
+    }
 }
 
 // Document 01: "Row length n is 1 to 16."
@@ -59,17 +78,24 @@ pub fn count(q: u64, n: u64, k: u64) -> Counted
     if refusal != 0 {
         return Counted::Refused(refusal);
     }
-    Counted::Count(coefficient(q, n, k))
+    Counted::Count(table_entry(q, n, k))
 }
 
-// q^k [n, k], the number of reduced matrices of n + 1 columns whose last column has no pivot, without a power: by formula (4) it is
-// [n + 1, k] - [n, k - 1].
+// [n, k - 1], 0 at k = 0: the second term of formula (4), the number of reduced matrices of n + 1 columns whose last column has a pivot.
+pub fn pivot_count(q: u64, n: u64, k: u64) -> u64
+    requires { ⌜ T (isFieldSize q) × (n < 16) × (k ≤ 16) × (gaussian q (suc n) k ≤ greatestCount) ⌝ }
+    ensures { λ r. ⌜ r ≡ withPivot q n k ⌝ }
+{
+    if k == 0 {
+        return 0;
+    }
+    coefficient(q, n, k - 1)
+}
+
+// q^k [n, k], the first term: the number of those whose last column has no pivot.
 pub fn free_count(q: u64, n: u64, k: u64) -> u64
     requires { ⌜ T (isFieldSize q) × (n < 16) × (k ≤ 16) × (gaussian q (suc n) k ≤ greatestCount) ⌝ }
     ensures { λ r. ⌜ r ≡ q ^ k * gaussian q n k ⌝ }
 {
-    if k == 0 {
-        return 1;
-    }
-    coefficient(q, n + 1, k) - coefficient(q, n, k - 1)
+    coefficient(q, n + 1, k) - pivot_count(q, n, k)
 }

@@ -1,4 +1,6 @@
 // Flat shims for the C tests, over numbers and byte slices, for what only Rattle callers reach. No part of the product.
+pub mod receiver;
+
 use gaussian::Counted;
 use pandrwyg::answer::Numbered;
 use pandrwyg::answer::Reduction;
@@ -47,7 +49,7 @@ pub extern "C" fn harness_table_entry(place: u64) -> u64 {
     if !field::is_size(q) {
         return 0;
     }
-    gaussian::coefficient(q, place / 17 % 17, place % 17)
+    gaussian::table_entry(q, place / 17 % 17, place % 17)
 }
 
 #[no_mangle]

@@ -1,21 +1,26 @@
 -- The tests of Matrix decide what they should; no part of the meaning.
+--   belowTo, below-start, below-more == the test of the first places, one place after the other, by the greatest entry
+--   below-none      == no entry is below 0
 --   entries-below   == every entry is below q exactly where the test holds
 --   Clauses n k m i p == document 01's four clauses for row i with its pivot in column p
 --   cell-alone      == the test at one row of a column
+--   pivotOf n k m i == the column of row i's pivot; n where there is no row i
+--   pivot-within    == of a row it is the pivot's
 --   row-zero, row-not-one, row-not-rising, row-rest == what is left of a row's test after each clause
 --   reduced-exactly == a matrix of the right length with its entries below q is Reduced exactly where isReduced holds
 -- Assumes nothing.
-use mathlib.Core.Path.{_≡_, refl, ap₂}
+use mathlib.Core.Path.{_≡_, refl, ap, ap₂, sym, _∙_}
 use mathlib.Core.Bool.{Bool, true, false, _&&_, _||_}
 use mathlib.Core.List.{List}
 use mathlib.Core.Logic.{_↔_, _⊎_, ⊎-elim}
 use Prim.Native.Nat.{ℕ, suc, _*_, _<_, _≤_}
 use native.Mathlib.Omega.{arith}
-use borrow.Author.Tests.{lt-ltb, le-ltb, eq-eqb, ne-eqb, lt-leb, leb-false, eqb-false}
+use borrow.Author.Tests.{lt-ltb, le-ltb, eq-eqb, ne-eqb, le-leb, lt-leb, leb-false, eqb-false}
 use lib.Dec.{T, eqb, ltb, leb, ltb→lt, eqb→eq, leb→le}
 use lib.ListN.{length, getD}
-use Rattle.basics.specs.Choice.{holds, or-left, or-right}
-use Rattle.basics.specs.All.{allBelow-at, allBelow-true}
+use Rattle.basics.specs.Choice.{pick, holds, or-left, or-right}
+use Rattle.basics.specs.Order.{le-or-lt, same-or-not}
+use Rattle.basics.specs.All.{allBelow, allBelow-start, allBelow-at, allBelow-true, allBelow-false}
 use Rattle.basics.specs.Test.{and-left, and-right}
 use Rattle.matrix.specs.Matrix.{entry, pivot, Reduced, entriesBelow, columnAlone, rowReduced, isReduced}
 
@@ -26,6 +31,38 @@ entries-below q m t place h = ltb→lt (getD m place 0) q (allBelow-at (length m
 pub entries-below-true : (q : ℕ) (m : List ℕ) → ((place : ℕ) → place < length m → getD m place 0 < q) → entriesBelow q m ≡ true
 unfolding entriesBelow
 entries-below-true q m h = allBelow-true (length m) (λ p. ltb (getD m p 0) q) (λ p l. lt-ltb (getD m p 0) q (h p l))
+
+-- the entries of the first i places are below q exactly where the greatest is, q being above 0
+abbrev pub belowTo : ℕ → List ℕ → ℕ → Bool
+belowTo q m i = allBelow i (λ p. ltb (getD m p 0) q)
+
+pub below-start : (q : ℕ) (m : List ℕ) → 0 < q → belowTo q m 0 ≡ ltb 0 q
+unfolding allBelow
+below-start q m h = sym (lt-ltb 0 q h)
+
+and-no : (b : Bool) → b && false ≡ false
+and-no true = refl
+and-no false = refl
+
+pub below-more : (q : ℕ) (m : List ℕ) (i greatest next : ℕ) → belowTo q m i ≡ ltb greatest q → greatest ≤ next → getD m i 0 ≤ next
+    → (next ≡ greatest) ⊎ (next ≡ getD m i 0) → belowTo q m (suc i) ≡ ltb next q
+unfolding allBelow
+below-more q m i greatest next before h g which = ⊎-elim less more (le-or-lt q next)
+  where
+    more : next < q → belowTo q m (suc i) ≡ ltb next q
+    more l = rw (before, lt-ltb greatest q (omega arith), lt-ltb (getD m i 0) q (omega arith), lt-ltb next q l)
+
+    less : q ≤ next → belowTo q m (suc i) ≡ ltb next q
+    less l =
+        ⊎-elim (λ e. rw (before, le-ltb greatest q (omega arith), le-ltb next q l))
+        (λ e. rw (le-ltb (getD m i 0) q (omega arith), le-ltb next q l) (and-no (belowTo q m i))) which
+
+pub below-none : (m : List ℕ) → entriesBelow 0 m ≡ eqb (length m) 0
+unfolding entriesBelow
+below-none m =
+    ⊎-elim (λ (e : length m ≡ 0). ap (λ k. allBelow k (λ p. ltb (getD m p 0) 0)) e ∙ allBelow-start _ ∙ sym (eq-eqb (length m) 0 e))
+    (λ ne. allBelow-false (length m) (λ p. ltb (getD m p 0) 0) 0 (omega (arith, ne)) (le-ltb (getD m 0 0) 0 (omega arith)) ∙ sym (ne-eqb (length m) 0 ne))
+    (same-or-not (length m) 0)
 
 or-other : (a b : Bool) → T (a || b) → (T a → ⊥) → T b
 or-other true b t h = absurd (h tt)
@@ -81,6 +118,12 @@ pub cell-alone : (n : ℕ) (m : List ℕ) (i j a : ℕ) → (a ≡ i) ⊎ (entry
 cell-alone n m i j a c =
     ⊎-elim (λ e. or-left (eqb a i) _ (eq-eqb a i e)) (λ e. or-right (eqb a i) _ (eq-eqb (entry n m a j) 0 e)) c
 
+abbrev pub pivotOf : ℕ → ℕ → List ℕ → ℕ → ℕ
+pivotOf n k m i = pick (leb k i) n (pivot n m i)
+
+pub pivot-within : (n k : ℕ) (m : List ℕ) (i : ℕ) → i < k → pivotOf n k m i ≡ pivot n m i
+pivot-within n k m i h = rw (lt-leb k i h)
+
 -- the test of a row, clause by clause, as the code makes it
 module _ (n k : ℕ) (m : List ℕ) (i p : ℕ) where
   pub row-zero : n ≤ p → rowReduced n k m i p ≡ false
@@ -91,14 +134,21 @@ module _ (n k : ℕ) (m : List ℕ) (i p : ℕ) where
   unfolding rowReduced
   row-not-one h ne = rw (lt-ltb p n h, ne-eqb (entry n m i p) 1 ne)
 
-  pub row-not-rising : p < n → entry n m i p ≡ 1 → suc i < k → pivot n m (suc i) ≤ p → rowReduced n k m i p ≡ false
+  pub row-not-rising : p < n → entry n m i p ≡ 1 → pivotOf n k m (suc i) ≤ p → rowReduced n k m i p ≡ false
   unfolding rowReduced
-  row-not-rising h e l g = rw (lt-ltb p n h, eq-eqb (entry n m i p) 1 e, lt-leb k (suc i) l, le-ltb p (pivot n m (suc i)) g)
+  row-not-rising h e g = ⊎-elim last before (le-or-lt k (suc i))
+    where
+      last : k ≤ suc i → rowReduced n k m i p ≡ false
+      last l = let z : n ≤ p = rw (le-leb k (suc i) l) at g in absurd (omega arith)
 
-  pub row-rest : p < n → entry n m i p ≡ 1 → (suc i < k → p < pivot n m (suc i)) → rowReduced n k m i p ≡ columnAlone n k m i p
+      before : suc i < k → rowReduced n k m i p ≡ false
+      before l =
+          rw (lt-ltb p n h, eq-eqb (entry n m i p) 1 e, lt-leb k (suc i) l, le-ltb p (pivot n m (suc i)) (rw (lt-leb k (suc i) l) at g))
+
+  pub row-rest : p < n → entry n m i p ≡ 1 → p < pivotOf n k m (suc i) → rowReduced n k m i p ≡ columnAlone n k m i p
   unfolding rowReduced
-  row-rest h e l =
-      rw (lt-ltb p n h, eq-eqb (entry n m i p) 1 e, or-true (leb k (suc i)) (ltb p (pivot n m (suc i))) (λ f. lt-ltb p (pivot n m (suc i)) (l (leb-false k (suc i) f))))
+  row-rest h e g =
+      rw (lt-ltb p n h, eq-eqb (entry n m i p) 1 e, or-true (leb k (suc i)) (ltb p (pivot n m (suc i))) (λ f. lt-ltb p (pivot n m (suc i)) (rw (lt-leb k (suc i) (leb-false k (suc i) f)) at g)))
 
 module _ (q n k : ℕ) (m : List ℕ) (sized : length m ≡ k * n) (below : T (entriesBelow q m)) where
   clauses-at : T (isReduced n k m) → (i : ℕ) → i < k → Clauses n k m i (pivot n m i)

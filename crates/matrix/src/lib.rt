@@ -1,12 +1,13 @@
 // Reduced matrices as bytes, row by row from the top. The functions ask that the matrix has its k×n bytes; the calls above test it.
 ghost use mathlib.Core.Path.{_≡_};
 ghost use mathlib.Core.List.{List};
-ghost use Prim.Native.Nat.{ℕ, _+_, _*_, _^_, _/_, _%_, _≤_, _<_};
+ghost use Prim.Native.Nat.{ℕ, suc, _+_, _*_, _^_, _/_, _%_, _≤_, _<_};
 ghost use lib.Dec.{eqb};
-ghost use lib.ListN.{length, getD};
+ghost use lib.ListN.{length, getD, replicate};
 ghost use Rattle.matrix.specs.Matrix.{entry, lead as leadOf, entriesBelow, columnAlone, rowReduced, isReduced, Reduced, identifying as vectorOf};
 ghost use Rattle.matrix.specs.Shape.{topValue};
-ghost use Rattle.matrix.specs.Written.{digitAt, Written};
+ghost use Rattle.matrix.specs.Written.{digitAt, unitAt, Blank, Written};
+ghost use Rattle.matrix.specs.Decided.{pivotOf};
 
 // The place, counted from `start`, of the first nonzero byte among the n bytes from there on; n where there is none.
 pub fn lead(m: &[u8], start: usize, n: usize) -> usize
@@ -23,18 +24,22 @@ pub fn lead(m: &[u8], start: usize, n: usize) -> usize
     n
 }
 
-// Whether every byte is below q.
+// Whether every byte is below q: whether the greatest is. The loop has no way out, so that the compiler compares many bytes in one step.
 pub fn entries_below(m: &[u8], q: u64) -> bool
     ensures { λ r. ⌜ r ≡ entriesBelow q (now (m .entry)) ⌝ }
 {
+    if q == 0 {
+        return m.len() == 0;
+    }
+    let mut greatest: u8 = 0;
     let mut i = 0;
     while i < m.len() {
-        if q <= m[i] as u64 {
-            return false;
+        if greatest < m[i] {
+            greatest = m[i];
         }
         i += 1;
     }
-    true
+    (greatest as u64) < q
 }
 
 // Whether column j is zero but for row i.
@@ -54,9 +59,10 @@ fn column_alone(m: &[u8], n: usize, k: usize, i: usize, j: usize) -> bool
     true
 }
 
-// Whether row i, whose pivot is in column p, obeys the four clauses of a reduced matrix.
-fn row_reduced(m: &[u8], n: usize, k: usize, i: usize, p: usize) -> bool
-    requires { ⌜ (i < k) × (k * n ≤ length (now m)) ⌝ }
+// Whether row i, whose pivot is in column p, obeys the four clauses of a reduced matrix; `next` is the column of the next row's pivot, n
+// where there is no next row.
+fn row_reduced(m: &[u8], n: usize, k: usize, i: usize, p: usize, next: usize) -> bool
+    requires { ⌜ (i < k) × (k * n ≤ length (now m)) × (next ≡ pivotOf n k (now m) (suc i)) ⌝ }
     ensures { λ r. ⌜ r ≡ rowReduced n k (now (m .entry)) i p ⌝ }
 {
     if n <= p {
@@ -65,12 +71,21 @@ fn row_reduced(m: &[u8], n: usize, k: usize, i: usize, p: usize) -> bool
     if m[i * n + p] != 1 {
         return false;
     }
-    if i + 1 < k {
-        if lead(m, (i + 1) * n, n) <= p {
-            return false;
-        }
+    if next <= p {
+        return false;
     }
     column_alone(m, n, k, i, p)
+}
+
+// The column of row i's pivot; n where there is no row i.
+fn pivot_of(m: &[u8], n: usize, k: usize, i: usize) -> usize
+    requires { ⌜ k * n ≤ length (now m) ⌝ }
+    ensures { λ r. ⌜ r ≡ pivotOf n k (now (m .entry)) i ⌝ }
+{
+    if k <= i {
+        return n;
+    }
+    lead(m, i * n, n)
 }
 
 // Whether the k rows obey the four clauses of a reduced matrix.
@@ -78,12 +93,14 @@ pub fn is_reduced(m: &[u8], n: usize, k: usize) -> bool
     requires { ⌜ k * n ≤ length (now m) ⌝ }
     ensures { λ r. ⌜ r ≡ isReduced n k (now (m .entry)) ⌝ }
 {
+    let mut p = pivot_of(m, n, k, 0);
     let mut i = 0;
     while i < k {
-        let p = lead(m, i * n, n);
-        if !row_reduced(m, n, k, i, p) {
+        let next = pivot_of(m, n, k, i + 1);
+        if !row_reduced(m, n, k, i, p, next) {
             return false;
         }
+        p = next;
         i += 1;
     }
     true
@@ -117,22 +134,37 @@ fn other_digits(q: u64, x: u64) -> u64
     }
 }
 
-// Writes the base-q digits of x into the first `rows` entries of column c, the last digit lowest, and 0 into the other entries.
-pub fn write_column(m: &mut [u8], q: u64, n: usize, k: usize, c: usize, rows: usize, x: u64)
-    requires { ⌜ (0 < q) × (q ≤ 256) × (c < n) × (rows ≤ k) × (k * n ≤ length (now m)) ⌝ }
+// Writes the base-q digits of x into the first `rows` entries of column c, the last digit lowest. The other entries are 0 already.
+pub fn write_digits(m: &mut [u8], q: u64, n: usize, k: usize, c: usize, rows: usize, x: u64)
+    requires { ⌜ (0 < q) × (q ≤ 256) × (c < n) × (rows ≤ k) × (k * n ≤ length (now m)) × Blank n k c rows (now m) ⌝ }
     ensures { λ _. ⌜ Written n k c (digitAt q rows x) (now (m .entry)) (now (m .exit)) ⌝ }
 {
     let mut rest = x;
-    let mut i = k;
+    let mut i = rows;
     while i > 0 {
         let a = i - 1;
-        let mut digit: u8 = 0;
-        if a < rows {
-            digit = last_digit(q, rest);
-            rest = other_digits(q, rest);
-        }
-        m[a * n + c] = digit;
+        m[a * n + c] = last_digit(q, rest);
+        rest = other_digits(q, rest);
         i = a;
+    }
+}
+
+// Writes a pivot's 1 into entry `row` of column c, whose entries are 0.
+pub fn write_pivot(m: &mut [u8], n: usize, k: usize, c: usize, row: usize)
+    requires { ⌜ (c < n) × (row < k) × (k * n ≤ length (now m)) × Blank n k c 0 (now m) ⌝ }
+    ensures { λ _. ⌜ Written n k c (unitAt row) (now (m .entry)) (now (m .exit)) ⌝ }
+{
+    m[row * n + c] = 1;
+}
+
+// Fills m with zeros.
+pub fn clear(m: &mut [u8])
+    ensures { λ _. ⌜ now (m .exit) ≡ replicate (length (now (m .entry))) 0 ⌝ }
+{
+    let mut i = 0;
+    while i < m.len() {
+        m[i] = 0;
+        i += 1;
     }
 }
 

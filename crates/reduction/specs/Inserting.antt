@@ -3,6 +3,7 @@
 --   rows-fit, room-for-row == the rows held, and one row more where the residue is not zero, fit n·n bytes
 --   insert-grows  == the rows do not become fewer
 --   insert-same   == where the residue is zero the bytes stay
+--   insert-full   == so do they where n rows are held
 --   insert-placed == where it is not, the scaled residue is put among the rows
 -- Assumes nothing.
 use mathlib.Core.Path.{_≡_, ap, ap₂, sym, _∙_}
@@ -70,3 +71,10 @@ module _ (q : ℕ) (laws : Laws q) (n d : ℕ) (m v : List ℕ) (kept : Kept q n
     insert-placed =
         let e : d * n + n ≡ (d + 1) * n = omega arith in
         (omega (arith, one-more), ap₂ (λ x y. join x ++ drop y m) (sym (insertRow-other q n rows v nonzero)) e)
+
+  pub insert-full : d ≡ n → (d ≡ length (insertRow q n rows v)) × (m ≡ join (insertRow q n rows v) ++ drop (d * n) m)
+  insert-full full = insert-same (cases (ℕ-discrete (leadOf n (residue q n rows v)) n))
+    where
+      cases : Dec (leadOf n (residue q n rows v) ≡ n) → leadOf n (residue q n rows v) ≡ n
+      cases (yes e) = e
+      cases (no ne) = absurd (omega (arith, room-for-row ne, full))

@@ -5,6 +5,7 @@ pub mod Moving
 pub mod Searching
 pub mod Placing
 pub mod Clearing
+pub mod Monic
 pub mod Inserting
 pub mod Held
 pub mod Reducing

@@ -5,7 +5,7 @@ ghost use mathlib.Core.List.{_++_};
 ghost use mathlib.Core.Logic.{_↔_};
 ghost use Prim.Native.Nat.{ℕ, _+_, _*_, _≤_, _<_};
 ghost use lib.Dec.{T};
-ghost use lib.ListN.{length, getD, drop, replicate};
+ghost use lib.ListN.{length, getD, drop};
 ghost use lib.Seq.{paste};
 ghost use Rattle.field.specs.Field.{isFieldSize};
 ghost use Rattle.linear.specs.Span.{All, Row, InSpan, rowsOf};
@@ -78,14 +78,24 @@ fn scale(q: u64, n: usize, c: u8, v: &mut [u8])
     }
 }
 
-// Scales v so that its entry at p, its lead, is 1.
-fn monic(q: u64, n: usize, p: usize, v: &mut [u8])
+// Divides v by its entry at p, its lead.
+fn divide(q: u64, n: usize, p: usize, v: &mut [u8])
     requires { ⌜ T (isFieldSize q) × (length (now v) ≡ n) × (p ≡ leadOf n (now v)) × (p < n) ⌝ }
     ensures { λ _. ⌜ now (v .exit) ≡ monicOf q n (now (v .entry)) ⌝ }
 {
     let pivot = v[p];
     let c = field::invert(q, pivot);
     scale(q, n, c, v);
+}
+
+// Scales v so that its entry at p, its lead, is 1. Where it is 1, nothing is left to do.
+fn monic(q: u64, n: usize, p: usize, v: &mut [u8])
+    requires { ⌜ T (isFieldSize q) × Row q n (now v) × (p ≡ leadOf n (now v)) × (p < n) ⌝ }
+    ensures { λ _. ⌜ now (v .exit) ≡ monicOf q n (now (v .entry)) ⌝ }
+{
+    if v[p] != 1 {
+        divide(q, n, p, v);
+    }
 }
 
 // Clears w's lead in the rows whose lead lies before it, and says how many they are.
@@ -144,8 +154,8 @@ fn place(q: u64, n: usize, d: usize, rows: &mut [u8], w: &[u8])
     copy(w, rows, start);
 }
 
-// Takes `row` into the d reduced rows and answers how many there are now. `row` is left with bytes of no meaning.
-pub fn insert(q: u64, n: usize, d: usize, rows: &mut [u8], row: &mut [u8]) -> usize
+// Takes `row` into the d reduced rows by its residue, and answers how many there are now.
+fn insert_residue(q: u64, n: usize, d: usize, rows: &mut [u8], row: &mut [u8]) -> usize
     requires { ⌜ T (isFieldSize q) × Kept q n (rowsOf n d (now rows)) × (n * n ≤ length (now rows)) × Row q n (now row) ⌝ }
     ensures { λ r. ⌜ r ≡ length (insertRow q n (rowsOf n d (now (rows .entry))) (now (row .entry))) ⌝ }
     ensures { λ r. ⌜ now (rows .exit) ≡ join (insertRow q n (rowsOf n d (now (rows .entry))) (now (row .entry))) ++ drop (r * n) (now (rows .entry)) ⌝ }
@@ -160,15 +170,17 @@ pub fn insert(q: u64, n: usize, d: usize, rows: &mut [u8], row: &mut [u8]) -> us
     d + 1
 }
 
-// Fills m with zeros.
-fn clear(m: &mut [u8])
-    ensures { λ _. ⌜ now (m .exit) ≡ replicate (length (now (m .entry))) 0 ⌝ }
+// Takes `row` into the d reduced rows and answers how many there are now; n of them span every row already. `row` is left with bytes of no
+// meaning.
+pub fn insert(q: u64, n: usize, d: usize, rows: &mut [u8], row: &mut [u8]) -> usize
+    requires { ⌜ T (isFieldSize q) × Kept q n (rowsOf n d (now rows)) × (n * n ≤ length (now rows)) × Row q n (now row) ⌝ }
+    ensures { λ r. ⌜ r ≡ length (insertRow q n (rowsOf n d (now (rows .entry))) (now (row .entry))) ⌝ }
+    ensures { λ r. ⌜ now (rows .exit) ≡ join (insertRow q n (rowsOf n d (now (rows .entry))) (now (row .entry))) ++ drop (r * n) (now (rows .entry)) ⌝ }
 {
-    let mut i = 0;
-    while i < m.len() {
-        m[i] = 0;
-        i += 1;
+    if d == n {
+        return d;
     }
+    insert_residue(q, n, d, rows, row)
 }
 
 // Writes the reduced matrix of the `count` rows of `input` to `rows`, with zeros after it, and answers its number of rows. `row` holds one
@@ -186,7 +198,7 @@ pub fn reduce(
     ensures { λ r. ⌜ r ≡ dimension q n (rowsOf n count (now (input .entry))) ⌝ }
     ensures { λ _. ⌜ now (rows .exit) ≡ padded (n * n) (reducedOf q n (rowsOf n count (now (input .entry)))) ⌝ }
 {
-    clear(rows);
+    matrix::clear(rows);
     let mut d = 0;
     let mut i = 0;
     while i < count {

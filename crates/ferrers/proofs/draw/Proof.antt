@@ -1,11 +1,21 @@
 -- `ferrers::draw` meets its contract: the columns passed are written, and the others are those of the dots, the place and the tableau that are
 -- left.
-use mathlib.Core.Path.{_∙_, sym}
+use mathlib.Core.Path.{ap, _∙_, sym}
 use Prim.Native.Nat.{_-_, _<_, _≤_}
 use native.Mathlib.Omega.{arith}
-use Rattle.field.specs.Small.{size-small}
+use lib.ListN.{replicate}
 use Rattle.ferrers.specs.Ranked.{diagramShape}
-use Rattle.ferrers.specs.Unranking.{Unranking, unranking-start, unranking-end, write-asked, free-next, rows-left, unranking-free, unranking-pivot}
+use Rattle.ferrers.specs.Unranking.{
+  Unranking,
+  unranking-start,
+  unranking-end,
+  write-asked,
+  pivot-asked,
+  free-next,
+  rows-left,
+  unranking-free,
+  unranking-pivot,
+}
 use Rattle.ferrers.specs.Weights.{Sizes, sizes}
 use Rattle.ferrers.proofs.draw.Statement.{statement}
 use Rattle.ferrers.proofs.draw.Tie as tie
@@ -17,14 +27,19 @@ Inv-loop m₀ q n k size place tableau dots₀ earlier₀ entries₀ rows₀ col
 abbrev μ-loop : tie.MeasureT-loop
 μ-loop m₀ q n k size place tableau dots₀ earlier₀ entries₀ rows₀ columns₀ m dots earlier entries rows columns = columns
 
+clear-requires : tie.Need-clear-requires Inv-loop μ-loop
+clear-requires c κs = tt
+
 loop-holds : tie.Need-loop-holds Inv-loop μ-loop
-loop-holds c = let s = c .before in unranking-start _ _ _ _ _ _ _ (s .pre .1) (s .pre .2) (s .pre .3)
+loop-holds c =
+    let s = c .before .before .before .before .before in
+    unranking-start _ _ _ _ _ _ _ (s .pre .1) (s .pre .2) (c .before .before .clear .ensures ∙ ap (λ size. replicate size 0) (s .pre .3))
 
 sub-c : tie.Need-sub-c Inv-loop μ-loop
 sub-c c = omega arith
 
 free-boxes-requires : tie.Need-free-boxes-requires Inv-loop μ-loop
-free-boxes-requires c κs = omega (arith, c .before .loop .inv .columns, c .before .before .before .pre .0 .narrow)
+free-boxes-requires c κs = omega (arith, c .before .loop .inv .columns, c .before .before .before .before .before .before .before .pre .0 .narrow)
 
 -- a free column's dots are among those that are left
 enough : (c : tie.Then1 Inv-loop μ-loop) → c .before .before .before .loop .rows ≤ c .before .before .before .loop .dots
@@ -36,11 +51,11 @@ sub-power : tie.Need-sub-power Inv-loop μ-loop
 sub-power c = enough c
 
 sized : (c : tie.Then1 Inv-loop μ-loop) →
-    let l = c .before .before .before in let a = l .before .before .args in
+    let l = c .before .before .before in let a = l .before .before .before .before .before .before .args in
     Sizes (a .q) (a .n) (a .k) (l .loop .dots - l .loop .rows)
 sized c =
     let l = c .before .before .before in
-    sizes (l .loop .dots - l .loop .rows) (l .before .before .pre .0) (omega (arith, l .loop .inv .room))
+    sizes (l .loop .dots - l .loop .rows) (l .before .before .before .before .before .before .pre .0) (omega (arith, l .loop .inv .room))
 
 power-requires : tie.Need-power-requires Inv-loop μ-loop
 power-requires c κs = let z = sized c in (z .size, z .short, z .power)
@@ -48,13 +63,13 @@ power-requires c κs = let z = sized c in (z .size, z .short, z .power)
 positive : (c : tie.After-power Inv-loop μ-loop) → 0 < c .power .result
 positive c = rw (c .power .ensures) (sized (c .before) .positive)
 
-div-write-column : tie.Need-div-write-column Inv-loop μ-loop
-div-write-column c = positive (c .before)
+div-write-digits : tie.Need-div-write-digits Inv-loop μ-loop
+div-write-digits c = positive (c .before)
 
-write-column-requires : tie.Need-write-column-requires Inv-loop μ-loop
-write-column-requires c κs =
+write-digits-requires : tie.Need-write-digits-requires Inv-loop μ-loop
+write-digits-requires c κs =
     let l = c .before .before .before .before .before in
-    write-asked (l .before .before .pre .0) (omega (arith, c .before .before .before .before .loop-test .taken)) (l .loop .inv)
+    write-asked (l .before .before .before .before .before .before .pre .0) (omega (arith, c .before .before .before .before .loop-test .taken)) (l .loop .inv)
 
 rem-entries : tie.Need-rem-entries Inv-loop μ-loop
 rem-entries c = positive (c .before .before .before .before)
@@ -62,16 +77,22 @@ rem-entries c = positive (c .before .before .before .before)
 sub-dots : tie.Need-sub-dots Inv-loop μ-loop
 sub-dots c = enough (c .before .before .before .before .before)
 
-write-column-requires-2 : tie.Need-write-column-requires-2 Inv-loop μ-loop
-write-column-requires-2 c κs =
-    let l = c .before .before .before .before in
-    write-asked (l .before .before .pre .0) (omega (arith, c .before .before .before .loop-test .taken)) (l .loop .inv)
+-- a row is left for the pivot
+row-left : (c : tie.Else1 Inv-loop μ-loop) → 1 ≤ c .before .before .before .loop .rows
+row-left c =
+    let f = c .before in
+    rows-left (omega (arith, f .before .loop-test .taken)) _ (f .free-boxes .ensures) (f .before .before .loop .inv) (c .if1 .left)
+
+sub-write-pivot : tie.Need-sub-write-pivot Inv-loop μ-loop
+sub-write-pivot c = row-left (c .before)
+
+write-pivot-requires : tie.Need-write-pivot-requires Inv-loop μ-loop
+write-pivot-requires c κs =
+    let f = c .before .before in
+    pivot-asked (omega (arith, f .before .loop-test .taken)) _ (f .free-boxes .ensures) (f .before .before .loop .inv) (c .before .if1 .left)
 
 sub-rows : tie.Need-sub-rows Inv-loop μ-loop
-sub-rows c =
-    let e = c .before .before .before .before in
-    let f = e .before in
-    rows-left (omega (arith, f .before .loop-test .taken)) _ (f .free-boxes .ensures) (f .before .before .loop .inv) (e .if1 .left)
+sub-rows c = row-left (c .before .before .before .before)
 
 loop-less : tie.Need-loop-less Inv-loop μ-loop
 loop-less c = omega (arith, c .before .before .before .before .before .before .before .loop-test .taken)
@@ -81,7 +102,7 @@ loop-again c =
     let p = c .before .before .before .before in
     let f = p .before .before in
     unranking-free (omega (arith, f .before .loop-test .taken)) _ (f .free-boxes .ensures) (f .before .before .loop .inv) _ _ (p .power .ensures)
-    (p .before .if1 .taken) (c .before .before .write-column .ensures)
+    (p .before .if1 .taken) (c .before .before .write-digits .ensures)
 
 loop-less-2 : tie.Need-loop-less-2 Inv-loop μ-loop
 loop-less-2 c = omega (arith, c .before .before .before .before .before .before .loop-test .taken)
@@ -90,12 +111,11 @@ loop-again-2 : tie.Need-loop-again-2 Inv-loop μ-loop
 loop-again-2 c =
     let e = c .before .before .before .before in
     let f = e .before in
-    let s = f .before .before .before .before in
-    unranking-pivot (omega (arith, f .before .loop-test .taken)) _ (f .free-boxes .ensures) (f .before .before .loop .inv) _
-    (size-small (s .args .q) (s .pre .0 .size) .0) (e .if1 .left) (c .before .before .write-column2 .ensures)
+    unranking-pivot (omega (arith, f .before .loop-test .taken)) _ (f .free-boxes .ensures) (f .before .before .loop .inv) _ (e .if1 .left)
+    (c .before .before .write-pivot .ensures)
 
 same-length : tie.Need-same-length Inv-loop μ-loop
-same-length c = c .before .loop .inv .drawing .sized ∙ sym (c .before .before .before .pre .3)
+same-length c = c .before .loop .inv .drawing .sized ∙ sym (c .before .before .before .before .before .before .before .pre .3)
 
 returns : tie.Need-returns Inv-loop μ-loop
 returns c = unranking-end (omega arith) (c .before .loop .inv)
@@ -106,16 +126,18 @@ draw-spec =
     (tie.spec
     Inv-loop
     μ-loop
+    clear-requires
     loop-holds
     sub-c
     free-boxes-requires
     sub-power
     power-requires
-    div-write-column
-    write-column-requires
+    div-write-digits
+    write-digits-requires
     rem-entries
     sub-dots
-    write-column-requires-2
+    sub-write-pivot
+    write-pivot-requires
     sub-rows
     loop-less
     loop-again

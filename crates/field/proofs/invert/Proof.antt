@@ -1,12 +1,11 @@
--- `field::invert` meets its contract: the table's rule, at the place made of q's part and a's remainder.
+-- `field::invert` meets its contract: the list's rule, at the place made of q's part and a's remainder.
 use mathlib.Core.Path.{ap₂, _∙_}
 use Prim.Native.Nat.{_+_, _*_}
 use native.Mathlib.Omega.{arith}
-use borrow.Author.Needs.{needs}
 use lib.ListN.{getD}
-use Rattle.basics.specs.Table.{tabulate}
-use Rattle.field.specs.Field.{multiply, inverseFrom, invert as inverse}
-use Rattle.field.proofs.Inverses.{entry, place-within, inverse-at}
+use Rattle.field.specs.Inverses.{inverses}
+use Rattle.field.proofs.Inverses.{place-within, inverse-at}
+use borrow.Author.Needs.{needs}
 use Rattle.field.proofs.invert.Statement.{statement}
 use Rattle.field.proofs.invert.Tie as tie
 
@@ -19,20 +18,22 @@ remainder-requires c κs = search needs
 cast-at : tie.Need-cast-at
 cast-at c = search needs
 
-mul-result : tie.Need-mul-result
-mul-result c = omega (arith, place-within (c .before .before .args .q) (c .before .before .args .a))
+mul-inverse-at : tie.Need-mul-inverse-at
+mul-inverse-at c = omega (arith, place-within (c .before .before .args .q) (c .before .before .args .a))
 
-add-result : tie.Need-add-result
-add-result c = omega (arith, place-within (c .before .before .args .q) (c .before .before .args .a))
+add-inverse-at : tie.Need-add-inverse-at
+add-inverse-at c = omega (arith, place-within (c .before .before .args .q) (c .before .before .args .a))
 
-array-read-result : tie.Need-array-read-result
-array-read-result c = omega (arith, place-within (c .before .before .args .q) (c .before .before .args .a))
+inverse-at-requires : tie.Need-inverse-at-requires
+inverse-at-requires c κs = search needs
 
 returns : tie.Need-returns
-unfolding entry tabulate multiply inverseFrom inverse
 returns c =
-    ap₂ (λ p r. getD (tabulate entry 0 40) (p * 8 + r) 0) (c .before .place .ensures) (c .remainder .ensures)
-    ∙ inverse-at (c .before .before .args .q) (c .before .before .args .a)
+    let r = c .before in
+    let a = r .before .before .args in
+    c .inverse-at .ensures
+    ∙ ap₂ (λ p x. getD inverses (p * 8 + x) 0) (r .before .place .ensures) (r .remainder .ensures)
+    ∙ inverse-at (a .q) (a .a)
 
 pub invert-spec : {M : Type 1} → statement M
 invert-spec =
@@ -41,7 +42,7 @@ invert-spec =
     place-requires
     remainder-requires
     cast-at
-    mul-result
-    add-result
-    array-read-result
+    mul-inverse-at
+    add-inverse-at
+    inverse-at-requires
     returns)

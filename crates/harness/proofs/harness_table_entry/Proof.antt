@@ -19,8 +19,8 @@ is-size-requires c κs = search needs
 returns-2 : tie.Need-returns-2
 returns-2 c = search needs
 
-coefficient-requires : tie.Need-coefficient-requires
-coefficient-requires c κs = (holds _ (sym (c .before .is-size .ensures) ∙ not-false _ (c .if2 .left)), omega arith, omega arith)
+table-entry-requires : tie.Need-table-entry-requires
+table-entry-requires c κs = (holds _ (sym (c .before .is-size .ensures) ∙ not-false _ (c .if2 .left)), omega arith, omega arith)
 
 returns-3 : tie.Need-returns-3
 returns-3 c = search needs
@@ -33,5 +33,5 @@ harness-table-entry-spec =
     size-of-part-requires
     is-size-requires
     returns-2
-    coefficient-requires
+    table-entry-requires
     returns-3)

@@ -1,42 +1,50 @@
--- `matrix::is_reduced` meets its contract: the test holds at every row passed.
+-- `matrix::is_reduced` meets its contract: the test holds at every row passed, and p is the next row's pivot.
 use mathlib.Core.Path.{_≡_, _∙_, ap, sym}
 use mathlib.Core.Bool.{true}
-use Prim.Native.Nat.{_-_, _≤_}
+use Prim.Native.Nat.{suc, _-_, _≤_}
 use native.Mathlib.Numerals.{add-one}
 use native.Mathlib.Omega.{arith}
 use borrow.Author.Tests.{not-true, not-false}
 use Rattle.basics.specs.All.{allBelow, allBelow-start, allBelow-more, allBelow-end, allBelow-false}
-use Rattle.basics.specs.Flat.{row-fits}
 use Rattle.matrix.specs.Matrix.{pivot, rowReduced, isReduced}
+use Rattle.matrix.specs.Decided.{pivotOf, pivot-within}
 use Rattle.matrix.proofs.is_reduced.Statement.{statement}
 use Rattle.matrix.proofs.is_reduced.Tie as tie
 
 abbrev Inv-loop : tie.InvT-loop
-Inv-loop m n k i₀ i = (i ≤ k) × (allBelow i (λ r. rowReduced n k m r (pivot n m r)) ≡ true)
+Inv-loop m n k p₀ i₀ p i = (i ≤ k) × (allBelow i (λ r. rowReduced n k m r (pivot n m r)) ≡ true) × (p ≡ pivotOf n k m i)
 
 abbrev μ-loop : tie.MeasureT-loop
-μ-loop m n k i₀ i = k - i
+μ-loop m n k p₀ i₀ p i = k - i
+
+pivot-of-requires : tie.Need-pivot-of-requires Inv-loop μ-loop
+pivot-of-requires c κs = c .before .pre
 
 loop-holds : tie.Need-loop-holds Inv-loop μ-loop
-loop-holds c = (omega arith, allBelow-start _)
+loop-holds c = (omega arith, allBelow-start _, c .pivot-of .ensures)
 
-mul-lead : tie.Need-mul-lead Inv-loop μ-loop
-mul-lead c = omega (arith, row-fits (c .before .loop .i) (c .before .before .before .args .k) (c .before .before .before .args .n) (c .loop-test .taken))
+add-pivot-of : tie.Need-add-pivot-of Inv-loop μ-loop
+add-pivot-of c = omega arith
 
-lead-requires : tie.Need-lead-requires Inv-loop μ-loop
-lead-requires c κs = omega (arith, row-fits (c .before .loop .i) (c .before .before .before .args .k) (c .before .before .before .args .n) (c .loop-test .taken))
+pivot-of-requires-2 : tie.Need-pivot-of-requires-2 Inv-loop μ-loop
+pivot-of-requires-2 c κs = c .before .before .before .before .pre
 
 row-reduced-requires : tie.Need-row-reduced-requires Inv-loop μ-loop
-row-reduced-requires c κs = (c .before .loop-test .taken, c .before .before .before .before .pre)
+row-reduced-requires c κs =
+    let s = c .before .before .before .before .before in
+    (c .before .loop-test .taken, s .pre, c .pivot-of2 .ensures ∙ ap (pivotOf (s .args .n) (s .args .k) (s .args .m .now)) (add-one _))
 
 -- what the row's test answered, at the row's own pivot
 answered : (c : tie.After-row-reduced Inv-loop μ-loop) →
-    let l = c .before .before .before in let a = l .before .before .args in
+    let l = c .before .before .before in let a = l .before .before .before .args in
     rowReduced (a .n) (a .k) (a .m .now) (l .loop .i) (pivot (a .n) (a .m .now) (l .loop .i)) ≡ c .row-reduced .result
 answered c =
-    let l = c .before .before .before in
-    let a = l .before .before .args in
-    ap (rowReduced (a .n) (a .k) (a .m .now) (l .loop .i)) (sym (c .before .lead .ensures)) ∙ sym (c .row-reduced .ensures)
+    let t = c .before .before in
+    let l = t .before in
+    let a = l .before .before .before .args in
+    ap (rowReduced (a .n) (a .k) (a .m .now) (l .loop .i))
+    (sym (l .loop .inv .2 ∙ pivot-within (a .n) (a .k) (a .m .now) (l .loop .i) (t .loop-test .taken)))
+    ∙ sym (c .row-reduced .ensures)
 
 returns : tie.Need-returns Inv-loop μ-loop
 unfolding isReduced
@@ -49,11 +57,12 @@ loop-less : tie.Need-loop-less Inv-loop μ-loop
 loop-less c = omega arith
 
 loop-again : tie.Need-loop-again Inv-loop μ-loop
-loop-again c = (
-  omega arith,
-  rw add-one
-      (allBelow-more _ _ (c .before .before .before .before .loop .inv .1) (answered (c .before) ∙ not-false _ (c .if1 .left))),
-)
+loop-again c =
+    let l = c .before .before .before .before in (
+      omega arith,
+      rw add-one (allBelow-more _ _ (l .loop .inv .1) (answered (c .before) ∙ not-false _ (c .if1 .left))),
+      c .before .before .pivot-of2 .ensures,
+    )
 
 returns-2 : tie.Need-returns-2 Inv-loop μ-loop
 unfolding isReduced
@@ -65,9 +74,10 @@ is-reduced-spec =
     (tie.spec
     Inv-loop
     μ-loop
+    pivot-of-requires
     loop-holds
-    mul-lead
-    lead-requires
+    add-pivot-of
+    pivot-of-requires-2
     row-reduced-requires
     returns
     add-i

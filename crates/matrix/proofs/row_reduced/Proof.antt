@@ -1,8 +1,5 @@
 -- `matrix::row_reduced` meets its contract: each return is what the clauses before it leave of the test.
 use mathlib.Core.Path.{_∙_, sym}
-use mathlib.Core.Logic.{⊎-elim}
-use Prim.Native.Nat.{_+_}
-use native.Mathlib.Numerals.{add-one}
 use native.Mathlib.Omega.{arith}
 use Rattle.basics.specs.Flat.{row-fits}
 use Rattle.matrix.specs.Decided.{row-zero, row-not-one, row-not-rising, row-rest}
@@ -25,28 +22,10 @@ shared-slice-read-if2 c = omega (arith, row-fits (c .before .before .before .arg
 returns-2 : tie.Need-returns-2
 returns-2 c = sym (row-not-one _ _ _ _ _ (c .before .before .if1 .left) (c .if2 .taken))
 
-add-if3 : tie.Need-add-if3
-add-if3 c = search needs
-
-add-lead : tie.Need-add-lead
-add-lead c = search needs
-
-mul-lead : tie.Need-mul-lead
-mul-lead c =
-    let b = c .before .before .before .before .before in
-    omega (arith, row-fits (b .args .i + 1) (b .args .k) (b .args .n) (omega arith))
-
-lead-requires : tie.Need-lead-requires
-lead-requires c κs =
-    let b = c .before .before .before .before .before in
-    omega (arith, row-fits (b .args .i + 1) (b .args .k) (b .args .n) (omega arith))
-
 returns-3 : tie.Need-returns-3
 returns-3 c =
-    let b = c .before .before .before in
-    sym
-    (row-not-rising _ _ _ _ _ (b .before .before .if1 .left) (b .if2 .left) (rw add-one at (c .before .before .if3 .taken))
-    (rw add-one at (rw (c .before .lead .ensures) at (c .if4 .taken))))
+    let b = c .before in
+    sym (row-not-rising _ _ _ _ _ (b .before .before .if1 .left) (b .if2 .left) (rw (b .before .before .before .before .pre .2) at (c .if3 .taken)))
 
 column-alone-requires : tie.Need-column-alone-requires
 column-alone-requires c κs = search needs
@@ -55,9 +34,7 @@ returns-4 : tie.Need-returns-4
 returns-4 c =
     let b = c .before .before in
     c .column-alone .ensures
-    ∙ sym
-    (row-rest _ _ _ _ _ (b .before .before .if1 .left) (b .if2 .left)
-    (λ h. ⊎-elim (λ w. rw add-one at (rw (w .1 .ensures) at (w .2 .left))) (λ w. absurd (omega (arith, w .left))) (c .before .if3 .came)))
+    ∙ sym (row-rest _ _ _ _ _ (b .before .before .if1 .left) (b .if2 .left) (rw (b .before .before .before .before .pre .2) at (c .before .if3 .left)))
 
 pub row-reduced-spec : {M : Type 1} → statement M
 row-reduced-spec =
@@ -68,10 +45,6 @@ row-reduced-spec =
     add-if2
     shared-slice-read-if2
     returns-2
-    add-if3
-    add-lead
-    mul-lead
-    lead-requires
     returns-3
     column-alone-requires
     returns-4)

@@ -1,41 +1,31 @@
--- `reduction::monic` meets its contract: the inverse of the entry at the lead scales it.
-use mathlib.Core.Path.{_≡_, ap, _∙_}
-use mathlib.Core.List.{List}
-use Prim.Native.Nat.{ℕ}
+-- `reduction::monic` meets its contract: what is scaled already stays.
+use mathlib.Core.Path.{_≡_, ap, sym, _∙_}
 use lib.ListN.{getD}
-use Rattle.field.specs.Field.{invert}
-use Rattle.field.specs.InField.{in-field}
-use Rattle.linear.specs.Eliminate.{leadOf, monic}
-use Rattle.reduction.specs.Steps.{multiple}
+use Rattle.field.specs.Decide.{laws}
+use Rattle.linear.specs.Eliminate.{leadOf}
+use Rattle.reduction.specs.Monic.{monic-same}
 use borrow.Author.Needs.{needs}
 use Rattle.reduction.proofs.monic.Statement.{statement}
 use Rattle.reduction.proofs.monic.Tie as tie
 
-slice-read-pivot : tie.Need-slice-read-pivot
-slice-read-pivot c = search needs
+slice-read-if1 : tie.Need-slice-read-if1
+slice-read-if1 c = search needs
 
-invert-requires : tie.Need-invert-requires
-invert-requires c κs = search needs
-
-scale-requires : tie.Need-scale-requires
-scale-requires c κs = search needs
+divide-requires : tie.Need-divide-requires
+divide-requires c κs = search needs
 
 same-length : tie.Need-same-length
 same-length c = search needs
 
 returns : tie.Need-returns
-unfolding monic multiple
-returns c =
-    let b = c .before .before .before .before .before .before .before in
-    let a = b .args in
-    let v : List ℕ = a .v .now in
-    let factor : c .before .before .before .before .invert .result ≡ invert (a .q) (getD v (leadOf (a .n) v) 0) =
-    c .before .before .before .before .invert .ensures
-    ∙ in-field (a .q) _ (b .pre .0)
-    ∙ ap (λ x. invert (a .q) (getD v x 0)) (b .pre .2)
-    in
-    c .before .before .scale .ensures ∙ ap (λ x. multiple (a .q) (a .n) x v) factor
+returns c = search needs
+
+returns-2 : tie.Need-returns-2
+returns-2 c =
+    let s = c .before .before .before in
+    let a = s .args in
+    let one : getD (a .v .now) (leadOf (a .n) (a .v .now)) 0 ≡ 1 = ap (λ j. getD (a .v .now) j 0) (sym (s .pre .2)) ∙ c .if1 .left in
+    monic-same (a .q) (laws (a .q) (s .pre .0)) (a .n) (a .v .now) (s .pre .1) one
 
 pub monic-spec : {M : Type 1} → statement M
-monic-spec =
-    tie.close (tie.spec slice-read-pivot invert-requires scale-requires same-length returns)
+monic-spec = tie.close (tie.spec slice-read-if1 divide-requires same-length returns returns-2)

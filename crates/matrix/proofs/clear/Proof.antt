@@ -1,12 +1,12 @@
--- `reduction::clear` meets its contract: the first i bytes are zeros, the others as they were.
+-- `matrix::clear` meets its contract: the first i bytes are zeros, the others as they were.
 use mathlib.Core.Path.{_≡_, ap, _∙_}
 use mathlib.Core.List.{_++_, append-nil}
 use Prim.Native.Nat.{_-_, _≤_}
 use native.Mathlib.Omega.{arith}
 use borrow.Author.Fill.{fill-none, fill-more}
 use lib.ListN.{length, drop, set, replicate, length-set, drop-of-length-le}
-use Rattle.reduction.proofs.clear.Statement.{statement}
-use Rattle.reduction.proofs.clear.Tie as tie
+use Rattle.matrix.proofs.clear.Statement.{statement}
+use Rattle.matrix.proofs.clear.Tie as tie
 
 abbrev Inv-loop : tie.InvT-loop
 Inv-loop m₀ i₀ m i = (i ≤ length m₀) × (length m ≡ length m₀) × (m ≡ replicate i 0 ++ drop i m₀)

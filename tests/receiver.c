@@ -1,0 +1,591 @@
+/*
+ * Tests Start, Take by value and lent, and Close against the second implementation's receiver, which keeps the list of
+ * accepted rows: random scripts of calls over every accepted setting, the round trip from Draw, document 01's figures,
+ * refused starts, and receivers that no calls lead to. An argument N runs about the N-th part, for slow checkers.
+ */
+#include "cases.h"
+#include "check.h"
+#include "harness.h"
+
+#include <stdlib.h>
+
+enum { SETTINGS = 468, SCRIPTS = 40, CALLS = 60, TRIPS = 20, FORGERIES = 6, DAMAGES = 100, ROW_LIMIT = MAX_LENGTH + 1 };
+
+#define COUNT_OF(array) (sizeof(array) / sizeof *(array))
+
+static setting settings[SETTING_LIMIT];
+static size_t setting_count;
+
+/* How many times less than the whole is run. */
+static size_t thinning = 1;
+
+/* How often each refusal was met, and each row's answer; a script that meets only some of them tests little. */
+static uint64_t take_refusals[16], close_refusals[16], raised_rows, held_rows;
+
+/* ---- Both receivers ---- */
+
+typedef enum { BY_VALUE, LENT } take_form;
+
+static const char *const form_names[] = {"by value", "lent"};
+
+static harness_step take(take_form form, const harness_receiver *receiver, const uint8_t *row, size_t length)
+{
+    return form == LENT ? harness_take_lent(*receiver, row, length) : harness_take(*receiver, row, length);
+}
+
+static bool same_receiver(const harness_receiver *first, const harness_receiver *second)
+{
+    return memcmp(first, second, sizeof *first) == 0;
+}
+
+/* The receiver that the library must have where the second has this one. */
+static harness_receiver image_of(const second_receiver *model)
+{
+    harness_receiver image = {{0}, model->q, model->n, model->k, 0};
+    if (model->n > 0)
+        image.dimension = second_entries(model, image.entries);
+    return image;
+}
+
+/* A start in both; answers the library's receiver. */
+static harness_receiver compare_start(uint64_t q, uint64_t n, uint64_t k, second_receiver *model)
+{
+    uint32_t refusal = second_start(q, n, k, model);
+    harness_step step = harness_start(q, n, k);
+    harness_receiver expected = image_of(model);
+    check(step.refusal == refusal && step.raised == 0,
+          "start of %" PRIu64 ",%" PRIu64 ",%" PRIu64 ": refusal %u instead of %u", q, n, k, step.refusal, refusal);
+    check(same_receiver(&step.receiver, &expected), "start of %" PRIu64 ",%" PRIu64 ",%" PRIu64 ": other receiver",
+          q, n, k);
+    return step.receiver;
+}
+
+/* A row taken into both. The answers must agree, and every byte of the receivers; the row is only read. */
+static void compare_take(take_form form, harness_receiver *receiver, second_receiver *model,
+                         const uint8_t *row, size_t length)
+{
+    uint8_t kept[ROW_LIMIT];
+    uint32_t raised;
+    memcpy(kept, row, length);
+    uint32_t refusal = second_take(model, row, length, &raised);
+    harness_step step = take(form, receiver, row, length);
+    harness_receiver expected = image_of(model);
+    check(step.refusal == refusal && step.raised == raised,
+          SETTING_FORMAT ", row of %zu bytes %s: refusal %u, raised %u instead of %u, %u",
+          SETTING_VALUES(model), length, form_names[form], step.refusal, step.raised, refusal, raised);
+    check(same_receiver(&step.receiver, &expected), SETTING_FORMAT ", %" PRIu64 " rows, the last %s: other receiver",
+          SETTING_VALUES(model), model->r, form_names[form]);
+    check(refusal == ACCEPTED || same_receiver(&step.receiver, receiver),
+          SETTING_FORMAT ": a row refused %u changes the receiver", SETTING_VALUES(model), refusal);
+    check(memcmp(kept, row, length) == 0, "the row was changed");
+    take_refusals[refusal]++;
+    raised_rows += raised;
+    held_rows += refusal == ACCEPTED && !raised;
+    *receiver = step.receiver;
+}
+
+static void compare_close(const harness_receiver *receiver, const second_receiver *model, uint64_t numbering)
+{
+    uint64_t index, dimension;
+    uint32_t refusal = second_close(model, numbering, &index, &dimension);
+    harness_answer answer = harness_close(*receiver, numbering);
+    if (refusal == ACCEPTED)
+        dimension = 0;
+    check(answer.refusal == refusal && answer.value == index && answer.dimension == dimension,
+          SETTING_FORMAT " in %" PRIu64 ": closed with %u, %" PRIu64 ", %" PRIu64 " instead of %u, %" PRIu64
+          ", %" PRIu64, SETTING_VALUES(model), numbering, answer.refusal, answer.value, answer.dimension,
+          refusal, index, dimension);
+    close_refusals[refusal]++;
+}
+
+/* ---- Scripts ---- */
+
+/* Both receivers, and a few rows whose linear combinations many rows of the script are. */
+typedef struct {
+    harness_receiver receiver;
+    second_receiver model;
+    uint64_t base_count;
+    uint8_t base[MAX_LENGTH * MAX_LENGTH];
+} script;
+
+static void begin_script(const setting *s, script *one)
+{
+    one->receiver = compare_start(s->q, s->n, s->k, &one->model);
+    one->base_count = random_below(2) == 0 ? s->k : random_below(s->n + 1);
+    random_entries(s->q, one->base, (size_t)(one->base_count * s->n));
+}
+
+static void random_mixture(uint64_t q, uint64_t n, uint64_t count, const uint8_t *rows, uint8_t *mixture)
+{
+    uint8_t factors[MAX_ROWS];
+    random_entries(q, factors, (size_t)count);
+    mix_rows(q, n, count, rows, factors, mixture);
+}
+
+/* A number that is no entry of the field: the first, the last or any. */
+static uint8_t oversized(uint64_t q)
+{
+    switch (random_below(3)) {
+    case 0: return (uint8_t)q;
+    case 1: return 255;
+    default: return (uint8_t)(q + random_below(256 - q));
+    }
+}
+
+/* A row that is accepted: new or not, and of any span. */
+static void accepted_row(const script *one, uint8_t *row)
+{
+    const second_receiver *model = &one->model;
+    uint64_t q = model->q, n = model->n;
+    switch (random_below(10)) {
+    case 0:
+        memset(row, 0, (size_t)n);
+        break;
+    case 1:
+        if (model->r > 0)
+            memcpy(row, model->rows + random_below(model->r) * n, (size_t)n);
+        break;
+    case 2:
+        random_mixture(q, n, model->r, model->rows, row);
+        break;
+    case 3:
+        memset(row, 0, (size_t)n);
+        row[random_below(n)] = (uint8_t)(1 + random_below(q - 1));
+        break;
+    case 4:
+        break;
+    default:
+        random_mixture(q, n, one->base_count, one->base, row);
+    }
+}
+
+/* Damages a row so that it is refused, and answers its length. */
+static size_t refused_row(uint64_t q, uint64_t n, uint8_t *row)
+{
+    unsigned kind = (unsigned)random_below(5);
+    if (kind >= 3)
+        row[random_below(n)] = oversized(q);
+    switch (kind) {
+    case 0: return (size_t)n - 1;
+    case 1: return (size_t)n + 1;
+    case 2: return 0;
+    case 3: return (size_t)n;
+    default: return random_below(2) == 0 ? (size_t)n - 1 : (size_t)n + 1;
+    }
+}
+
+static void random_call(script *one)
+{
+    uint64_t q = one->model.q, n = one->model.n;
+    uint8_t row[ROW_LIMIT];
+    unsigned kind = (unsigned)random_below(8);
+    if (kind == 0) {
+        compare_close(&one->receiver, &one->model, random_below(4));
+        return;
+    }
+    random_entries(q, row, ROW_LIMIT);
+    accepted_row(one, row);
+    size_t length = kind == 1 ? refused_row(q, n, row) : (size_t)n;
+    compare_take(random_below(2) == 0 ? BY_VALUE : LENT, &one->receiver, &one->model, row, length);
+}
+
+static void scripts_group(uint64_t q)
+{
+    script one;
+    check_group_begin("scripts of calls, q = %" PRIu64, q);
+    for (size_t number = 0; number < setting_count; number += thinning)
+        for (unsigned round = 0; round < SCRIPTS && settings[number].q == q; round++) {
+            begin_script(&settings[number], &one);
+            for (uint64_t calls = random_below(CALLS); calls > 0; calls--)
+                random_call(&one);
+            for (uint64_t numbering = 0; numbering < 4; numbering++)
+                compare_close(&one.receiver, &one.model, numbering);
+        }
+    check_group_end();
+}
+
+/* The scripts met every answer of Take and Close that they can. */
+static void answers_group(void)
+{
+    check_group_begin("answers that the scripts met");
+    check(raised_rows > 0 && held_rows > 0, "rows raised or held");
+    check(take_refusals[REFUSED_LENGTH] > 0 && take_refusals[REFUSED_ENTRY] > 0, "rows refused 4 or 6");
+    check(close_refusals[ACCEPTED] > 0 && close_refusals[REFUSED_NUMBERING] > 0, "done or refused 10");
+    check(close_refusals[REFUSED_TOO_FEW] > 0 && close_refusals[REFUSED_TOO_MANY] > 0, "refused 8 or 9");
+    check_group_end();
+}
+
+/* ---- Round trip ---- */
+
+/* Draws, and takes linear combinations: the index again once they span the drawn rows, else their dimension. */
+static void round_trip(const setting *s, uint64_t numbering)
+{
+    uint8_t matrix[MAX_LENGTH * MAX_LENGTH], factors[ROWS_LIMIT], row[MAX_LENGTH];
+    uint64_t index = random_index(s->count), rank = 0;
+    harness_receiver receiver = harness_start(s->q, s->n, s->k).receiver;
+    uint32_t refusal = pandrwyg_draw(s->q, s->n, s->k, numbering, index, matrix, (size_t)(s->k * s->n));
+    check(refusal == ACCEPTED, SETTING_FORMAT ": draw refused %u", SETTING_VALUES(s), refusal);
+    for (uint64_t r = 0; r < s->k + 4; r++) {
+        random_entries(s->q, factors + r * s->k, (size_t)s->k);
+        mix_rows(s->q, s->n, s->k, matrix, factors + r * s->k, row);
+        harness_step step = take(random_below(2) == 0 ? BY_VALUE : LENT, &receiver, row, (size_t)s->n);
+        uint64_t before = rank;
+        rank = factor_rank(s->q, s->k, r + 1, factors);
+        check(step.refusal == ACCEPTED && step.raised == rank - before,
+              SETTING_FORMAT ": refusal %u, raised %u", SETTING_VALUES(s), step.refusal, step.raised);
+        receiver = step.receiver;
+        harness_answer answer = harness_close(receiver, numbering);
+        bool right = rank == s->k ? answer.refusal == ACCEPTED && answer.value == index
+                                  : answer.refusal == REFUSED_TOO_FEW && answer.dimension == rank;
+        check(right, SETTING_FORMAT " in %" PRIu64 ": index %" PRIu64 ", %" PRIu64 " rows of rank %" PRIu64,
+              SETTING_VALUES(s), numbering, index, r + 1, rank);
+    }
+}
+
+static void round_trip_group(uint64_t numbering)
+{
+    check_group_begin("round trip, numbering %" PRIu64, numbering);
+    for (size_t number = 0; number < setting_count; number += thinning)
+        for (unsigned round = 0; round < TRIPS; round++)
+            round_trip(&settings[number], numbering);
+    check_group_end();
+}
+
+/* ---- Figures ---- */
+
+/* Takes rows of digits; what is raised is told by 1, what is held by 0. Then closes in both numberings. */
+static void compare_figure(setting s, const char *rows, const char *raised, uint32_t refusal, uint64_t index,
+                           uint64_t dimension)
+{
+    uint8_t entries[ROWS_LIMIT];
+    size_t count = read_rows(rows, entries) / s.n;
+    for (take_form form = BY_VALUE; form <= LENT; form++) {
+        harness_receiver receiver = harness_start(s.q, s.n, s.k).receiver;
+        for (size_t row = 0; row < count; row++) {
+            harness_step step = take(form, &receiver, entries + row * s.n, (size_t)s.n);
+            check(step.refusal == ACCEPTED && step.raised == (uint32_t)(raised[row] - '0'),
+                  "%s %s: row %zu", rows, form_names[form], row);
+            receiver = step.receiver;
+        }
+        for (uint64_t numbering = EXTENDED; numbering <= FERRERS; numbering++) {
+            harness_answer answer = harness_close(receiver, numbering);
+            check(answer.refusal == refusal && answer.value == index && answer.dimension == dimension,
+                  "%s in %" PRIu64, rows, numbering);
+        }
+    }
+}
+
+static void figures_group(void)
+{
+    check_group_begin("figures of document 01, row by row");
+    compare_figure((setting){3, 2, 1, 0}, "21", "1", ACCEPTED, 2, 0);
+    compare_figure((setting){2, 3, 2, 0}, "110/011/101", "110", ACCEPTED, 3, 0);
+    compare_figure((setting){2, 3, 2, 0}, "110", "1", REFUSED_TOO_FEW, 0, 1);
+    compare_figure((setting){2, 3, 2, 0}, "100/010/001", "111", REFUSED_TOO_MANY, 0, 3);
+    compare_figure((setting){2, 3, 0, 0}, "", "", ACCEPTED, 0, 0);
+    compare_figure((setting){2, 3, 0, 0}, "000/000", "00", ACCEPTED, 0, 0);
+    compare_figure((setting){2, 3, 1, 0}, "001/000/001", "100", ACCEPTED, 6, 0);
+    check_group_end();
+}
+
+/* ---- Receivers that any caller may hand in ---- */
+
+/* How many receivers were taken for reachable, and how many were refused, since the group began. */
+static uint64_t reachable, unreachable;
+
+static void compare_unreachable(const harness_receiver *receiver, const uint8_t *row, size_t length)
+{
+    for (take_form form = BY_VALUE; form <= LENT; form++) {
+        harness_step step = take(form, receiver, row, length);
+        check(step.refusal == REFUSED_RECEIVER && step.raised == 0 && same_receiver(&step.receiver, receiver),
+              SETTING_FORMAT " of dimension %" PRIu64 ", Take %s: refusal %u", SETTING_VALUES(receiver),
+              receiver->dimension, form_names[form], step.refusal);
+    }
+    harness_answer answer = harness_close(*receiver, random_below(4));
+    check(answer.refusal == REFUSED_RECEIVER && answer.value == 0 && answer.dimension == 0,
+          SETTING_FORMAT " of dimension %" PRIu64 ", Close: refusal %u", SETTING_VALUES(receiver),
+          receiver->dimension, answer.refusal);
+}
+
+static void compare_reachable(const harness_receiver *receiver, const second_receiver *model)
+{
+    uint8_t row[ROW_LIMIT];
+    random_entries(model->q, row, ROW_LIMIT);
+    size_t length = random_below(4) == 0 ? refused_row(model->q, model->n, row) : (size_t)model->n;
+    for (take_form form = BY_VALUE; form <= LENT; form++) {
+        harness_receiver left = *receiver;
+        second_receiver list = *model;
+        compare_take(form, &left, &list, row, length);
+    }
+    for (uint64_t numbering = 0; numbering < 4; numbering++)
+        compare_close(receiver, model, numbering);
+}
+
+/* Any receiver: refused 14 where no list of rows leads to it, whatever else is wrong; else as after such a list. */
+static void compare_any(const harness_receiver *receiver)
+{
+    second_receiver model;
+    uint8_t row[ROW_LIMIT];
+    uint32_t refusal = second_revive(receiver->q, receiver->n, receiver->k, receiver->dimension, receiver->entries,
+                                     &model);
+    if (refusal == ACCEPTED) {
+        reachable++;
+        compare_reachable(receiver, &model);
+        return;
+    }
+    unreachable++;
+    random_entries(random_below(4) == 0 ? 256 : 2, row, ROW_LIMIT);
+    compare_unreachable(receiver, row, random_below(2) == 0 && receiver->n < ROW_LIMIT ? (size_t)receiver->n
+                                                                                      : random_below(ROW_LIMIT + 1));
+}
+
+static void begin_any_group(void)
+{
+    reachable = 0;
+    unreachable = 0;
+}
+
+static void end_any_group(void)
+{
+    check(reachable > 0 && unreachable > 0, "%" PRIu64 " receivers reachable, %" PRIu64 " not", reachable, unreachable);
+    check_group_end();
+}
+
+/* A receiver of the given dimension, after random rows; as many as surely are enough, unless Take is at fault. */
+static harness_receiver receiver_of(uint64_t q, uint64_t n, uint64_t k, uint64_t dimension)
+{
+    harness_receiver receiver = harness_start(q, n, k).receiver;
+    uint8_t row[MAX_LENGTH];
+    for (unsigned rows = 0; rows < 500 && receiver.dimension < dimension; rows++) {
+        random_entries(q, row, (size_t)n);
+        receiver = harness_take(receiver, row, (size_t)n).receiver;
+    }
+    check(receiver.dimension == dimension, "dimension %" PRIu64 " not reached", dimension);
+    return receiver;
+}
+
+/* Every byte of a receiver, those of its four numbers too, at each of the 255 other values. */
+static void single_byte_group(uint64_t q, uint64_t n, uint64_t k, uint64_t dimension)
+{
+    check_group_begin("every damaged byte, %" PRIu64 ",%" PRIu64 ",%" PRIu64 " of dimension %" PRIu64,
+                      q, n, k, dimension);
+    harness_receiver receiver = receiver_of(q, n, k, dimension);
+    begin_any_group();
+    compare_any(&receiver);
+    for (size_t place = 0; place < sizeof receiver; place++)
+        for (unsigned other = 1; other < 256; other += (unsigned)thinning) {
+            harness_receiver damaged = receiver;
+            ((uint8_t *)&damaged)[place] ^= (uint8_t)other;
+            compare_any(&damaged);
+        }
+    end_any_group();
+}
+
+/* Changes the rows of a receiver that has some: mostly the same span, told by other rows. */
+static void damage_rows(harness_receiver *receiver)
+{
+    uint64_t q = receiver->q, n = receiver->n;
+    uint8_t kept[MAX_LENGTH], *row = receiver->entries + random_below(receiver->dimension) * n;
+    uint8_t *other = receiver->entries + random_below(receiver->dimension) * n;
+    memcpy(kept, row, (size_t)n);
+    switch (random_below(5)) {
+    case 0:
+        memmove(row, other, (size_t)n);
+        memcpy(other, kept, (size_t)n);
+        break;
+    case 1:
+        add_multiple(q, n, row, other, (uint8_t)random_below(q));
+        break;
+    case 2:
+        memset(row, 0, (size_t)n);
+        break;
+    case 3:
+        random_mixture(q, n, receiver->dimension, receiver->entries, row);
+        break;
+    default:
+        receiver->dimension += random_below(3) - 1;
+    }
+}
+
+static void damaged_rows_group(void)
+{
+    check_group_begin("damaged rows");
+    begin_any_group();
+    for (size_t number = 0; number < setting_count; number += thinning)
+        for (unsigned round = 0; round < DAMAGES; round++) {
+            const setting *s = &settings[number];
+            harness_receiver receiver = receiver_of(s->q, s->n, s->k, 1 + random_below(s->n));
+            if (receiver.dimension > 0)
+                damage_rows(&receiver);
+            compare_any(&receiver);
+        }
+    end_any_group();
+}
+
+/* Every filling of the first entries with numbers up to q, at every dimension up to n + 1: one for each space. */
+static void every_filling_group(uint64_t q, uint64_t n, uint64_t k, size_t filled)
+{
+    harness_receiver receiver = harness_start(q, n, k).receiver;
+    uint64_t spaces = 0, count;
+    check_group_begin("every filling of %zu entries, %" PRIu64 ",%" PRIu64 ",%" PRIu64, filled, q, n, k);
+    begin_any_group();
+    do
+        for (receiver.dimension = 0; receiver.dimension <= n + 1; receiver.dimension++)
+            compare_any(&receiver);
+    while (next_entries(q, receiver.entries, filled));
+    for (uint64_t dimension = 0; dimension <= n; dimension++, spaces += count)
+        second_count(q, n, dimension, &count);
+    check(reachable == spaces, "%" PRIu64 " receivers for %" PRIu64 " spaces", reachable, spaces);
+    end_any_group();
+}
+
+/* Numbers in and out of range, those that would be cut to a number in range, and those whose products wrap to 0. */
+static const uint64_t forged[] = {
+    0, 1, 2, 3, 4, 5, 6, 7, 8, 9, 10, 11, 12, 13, 14, 15, 16, 17, 18, 32, 127, 128, 255, 256, 257, 258, 259, 261, 263,
+    272, 65536, 65538, UINT64_C(1) << 32, (UINT64_C(1) << 32) + 1, (UINT64_C(1) << 32) + 2, (UINT64_C(1) << 32) + 3,
+    UINT64_C(1) << 60, (UINT64_C(1) << 60) + 1, UINT64_C(1) << 61, UINT64_C(1) << 62, UINT64_C(1) << 63,
+    (UINT64_C(1) << 63) + 2, UINT64_MAX - 15, UINT64_MAX - 1, UINT64_MAX,
+};
+
+/* One of the four numbers, or two of them, forged. */
+static void compare_forged(const harness_receiver *receiver, uint64_t value)
+{
+    harness_receiver q = *receiver, n = *receiver, k = *receiver, dimension = *receiver, both = *receiver;
+    q.q = value;
+    n.n = value;
+    k.k = value;
+    dimension.dimension = value;
+    both.n = forged[random_below(COUNT_OF(forged))];
+    both.dimension = value;
+    compare_any(&q);
+    compare_any(&n);
+    compare_any(&k);
+    compare_any(&dimension);
+    compare_any(&both);
+}
+
+static void forged_numbers_group(void)
+{
+    check_group_begin("forged settings and dimensions");
+    begin_any_group();
+    for (size_t number = 0; number < setting_count; number += thinning)
+        for (unsigned round = 0; round < FORGERIES; round++) {
+            const setting *s = &settings[number];
+            harness_receiver receiver = receiver_of(s->q, s->n, s->k, round == 0 ? 0 : random_below(s->n + 1));
+            for (size_t place = 0; place < COUNT_OF(forged); place++)
+                compare_forged(&receiver, forged[place]);
+        }
+    end_any_group();
+}
+
+/* A dimension above n is refused 14, whatever the entries are. */
+static void forged_dimensions_group(void)
+{
+    check_group_begin("dimensions above n");
+    for (size_t number = 0; number < setting_count; number += thinning) {
+        const setting *s = &settings[number];
+        const uint64_t dimensions[] = {s->n + 1, 17, 255, 256, 256 + s->n, UINT64_C(1) << 32, UINT64_C(1) << 60,
+                                       UINT64_C(1) << 63, UINT64_MAX};
+        uint8_t row[MAX_LENGTH] = {1};
+        harness_receiver receiver = receiver_of(s->q, s->n, s->k, number % (s->n + 1));
+        for (size_t place = 0; place < COUNT_OF(dimensions); place++) {
+            receiver.dimension = dimensions[place];
+            compare_unreachable(&receiver, row, (size_t)s->n);
+        }
+    }
+    check_group_end();
+}
+
+/* ---- Starts ---- */
+
+static void starts_group(void)
+{
+    second_receiver model;
+    check_group_begin("starts, accepted and refused");
+    for (size_t q = 0; q < COUNT_OF(forged); q++)
+        for (size_t n = 0; n < COUNT_OF(forged); n++)
+            for (size_t k = 0; k < COUNT_OF(forged); k++)
+                compare_start(forged[q], forged[n], forged[k], &model);
+    check_group_end();
+}
+
+static const struct {
+    uint64_t q, n, k;
+    uint32_t refusal;
+} refused_starts[] = {
+    {4, 3, 1, REFUSED_FIELD}, {258, 3, 1, REFUSED_FIELD}, {UINT64_MAX, 17, 18, REFUSED_FIELD},
+    {2, 0, 0, REFUSED_SHAPE}, {2, 17, 1, REFUSED_SHAPE}, {7, 259, 1, REFUSED_SHAPE}, {2, 3, 4, REFUSED_SHAPE},
+    {2, 16, UINT64_MAX, REFUSED_SHAPE}, {2, 16, 7, REFUSED_COUNT}, {7, 16, 8, REFUSED_COUNT},
+};
+
+/* Take and Close on what a refused start gives, all zeros: 14, before any other refusal. */
+static void refused_starts_group(void)
+{
+    static const uint64_t numbers[] = {0, 1, 2, 3, 258, UINT64_MAX};
+    static const harness_receiver zeros;
+    uint8_t row[ROW_LIMIT] = {0};
+    check_group_begin("refused starts");
+    for (size_t place = 0; place < COUNT_OF(refused_starts); place++) {
+        harness_step step = harness_start(refused_starts[place].q, refused_starts[place].n, refused_starts[place].k);
+        check(step.refusal == refused_starts[place].refusal && same_receiver(&step.receiver, &zeros),
+              SETTING_FORMAT ": refusal %u", SETTING_VALUES(&refused_starts[place]), step.refusal);
+        for (size_t length = 0; length <= ROW_LIMIT; length++) {
+            row[0] = length % 2 == 0 ? 255 : 0;
+            compare_unreachable(&step.receiver, row, length);
+        }
+        for (size_t number = 0; number < COUNT_OF(numbers); number++)
+            check(harness_close(step.receiver, numbers[number]).refusal == REFUSED_RECEIVER,
+                  "closed in %" PRIu64, numbers[number]);
+    }
+    check_group_end();
+}
+
+static void settings_group(void)
+{
+    check_group_begin("number of accepted settings");
+    check(setting_count == SETTINGS, "%zu settings instead of %d", setting_count, SETTINGS);
+    check_group_end();
+}
+
+static void damage_groups(void)
+{
+    single_byte_group(2, 1, 1, 0);
+    single_byte_group(2, 1, 1, 1);
+    single_byte_group(2, 4, 2, 2);
+    single_byte_group(3, 4, 2, 1);
+    single_byte_group(5, 3, 1, 3);
+    single_byte_group(5, 6, 3, 4);
+    single_byte_group(7, 2, 1, 1);
+    single_byte_group(7, 16, 1, 2);
+    single_byte_group(3, 16, 3, 8);
+    single_byte_group(2, 16, 6, 0);
+    single_byte_group(2, 16, 6, 6);
+    single_byte_group(2, 16, 16, 16);
+    every_filling_group(2, 1, 0, 4);
+    every_filling_group(2, 2, 1, 6);
+    every_filling_group(3, 2, 1, 5);
+    every_filling_group(7, 2, 2, 4);
+    every_filling_group(2, 3, 2, 9);
+    damaged_rows_group();
+    forged_numbers_group();
+    forged_dimensions_group();
+}
+
+int main(int argc, char **argv)
+{
+    if (argc > 1 && atoi(argv[1]) > 0)
+        thinning = (size_t)atoi(argv[1]);
+    second_init();
+    setting_count = accepted_settings(settings, UINT64_MAX);
+    settings_group();
+    for (unsigned place = 0; place < FIELD_COUNT; place++)
+        scripts_group(second_field_sizes[place]);
+    answers_group();
+    round_trip_group(EXTENDED);
+    round_trip_group(FERRERS);
+    figures_group();
+    starts_group();
+    refused_starts_group();
+    damage_groups();
+    return check_summary("receiver");
+}

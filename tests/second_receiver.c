@@ -1,0 +1,67 @@
+/*
+ * The receiver of the second implementation: it keeps the list of all accepted rows, and nothing else is carried from
+ * one call to the next. Whatever is asked of it comes from Gauss-Jordan elimination over that whole list.
+ */
+#include "second.h"
+
+#include <string.h>
+
+uint32_t second_start(uint64_t q, uint64_t n, uint64_t k, second_receiver *receiver)
+{
+    uint64_t count;
+    uint32_t refusal = second_count(q, n, k, &count);
+    memset(receiver, 0, sizeof *receiver);
+    if (refusal != ACCEPTED)
+        return refusal;
+    receiver->q = q;
+    receiver->n = n;
+    receiver->k = k;
+    return ACCEPTED;
+}
+
+uint64_t second_entries(const second_receiver *receiver, uint8_t *entries)
+{
+    uint64_t n = receiver->n, dimension;
+    memset(entries, 0, MAX_LENGTH * MAX_LENGTH);
+    second_reduce(receiver->q, n, receiver->r, receiver->rows, (size_t)(receiver->r * n), entries, (size_t)(n * n),
+                  &dimension);
+    return dimension;
+}
+
+uint32_t second_take(second_receiver *receiver, const uint8_t *row, size_t length, uint32_t *raised)
+{
+    uint8_t entries[MAX_LENGTH * MAX_LENGTH];
+    uint64_t n = receiver->n, alone;
+    *raised = 0;
+    uint32_t refusal = second_reduce(receiver->q, n, 1, row, length, entries, (size_t)(n * n), &alone);
+    if (refusal != ACCEPTED)
+        return refusal;
+    uint64_t before = second_entries(receiver, entries);
+    memcpy(receiver->rows + receiver->r * n, row, length);
+    receiver->r++;
+    *raised = second_entries(receiver, entries) != before;
+    return ACCEPTED;
+}
+
+uint32_t second_close(const second_receiver *receiver, uint64_t numbering, uint64_t *index, uint64_t *dimension)
+{
+    return second_receive(receiver->q, receiver->n, receiver->k, numbering, receiver->r, receiver->rows,
+                          (size_t)(receiver->r * receiver->n), index, dimension);
+}
+
+uint32_t second_revive(uint64_t q, uint64_t n, uint64_t k, uint64_t dimension, const uint8_t *entries,
+                       second_receiver *receiver)
+{
+    uint8_t reduced[MAX_LENGTH * MAX_LENGTH] = {0};
+    uint64_t rank;
+    if (second_start(q, n, k, receiver) != ACCEPTED || dimension > n)
+        return REFUSED_RECEIVER;
+    size_t length = (size_t)(dimension * n);
+    if (second_reduce(q, n, dimension, entries, length, reduced, (size_t)(n * n), &rank) != ACCEPTED)
+        return REFUSED_RECEIVER;
+    if (rank != dimension || memcmp(reduced, entries, sizeof reduced) != 0)
+        return REFUSED_RECEIVER;
+    memcpy(receiver->rows, entries, length);
+    receiver->r = dimension;
+    return ACCEPTED;
+}
