@@ -1,13 +1,13 @@
 -- The listing written chunk by chunk: a state, what is still to be written in it, and one step. The settings in a state are tested anew at
 -- each step, so that a state which no step made does no harm: of settings that are refused no line is left.
---   live p          == the settings of p are not refused
---   linesEnd p      == the index up to which the next chunk lists: 64 lines more, or all
---   remaining s     == all that is still to be written in the state s
+--   live p          == the settings of p are not refused, and its index is below their count
+--   linesEnd N i    == the index up to which the next chunk lists: 64 lines further than i, or all
+--   remaining s     == all that is still to be written in the state s; remainingLines p, among the lines
 --   begunFor, begun == the state in which the program begins
 --   chunkOf s       == what a step writes in the state s: the line of a refusal, the header, up to 64 lines, or nothing at the end
---   nextState s     == the state after it
+--   nextState s     == the state after it; linesChunk p and linesNext p, the same among the lines
 --   stateAfter m s, chunks m s == the state after m steps, and what they write
--- Theorems: `chunks-are-the-output`, `finished`.
+-- Theorems has `chunk-remaining`, `chunk-empty`, `finished` and `chunks-are-the-output`.
 -- Assumes nothing.
 use mathlib.Core.Bool.{Bool, true, false, _&&_}
 use mathlib.Core.List.{List, [], _++_}
