@@ -5,5 +5,6 @@ pub mod NumeralLaws
 pub mod Reading
 pub mod DecimalLaws
 pub mod ParseLaws
+pub mod Runs
 pub mod Field
 pub mod Exactly
