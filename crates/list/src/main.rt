@@ -18,7 +18,7 @@ fn write_listing(begin: State) -> Ended
     ensures { λ r. ⌜ (r .written ≡ true → r .state ≡ Done) ⌝ }
 {
     let mut state = begin;
-    let mut chunk = [0u8; 20480];
+    let mut chunk = [0u8; listing::CHUNK_SIZE];
     let mut steps: u64 = 1026;
     while steps > 0 {
         let stepped = listing::step(state, &mut chunk);

@@ -2,9 +2,9 @@
 mod write;
 
 ghost use mathlib.Core.Path.{_≡_};
-ghost use Prim.Native.Nat.{_≤_, _<_};
-ghost use Rattle.listing.specs.Listing.{listRefusal};
+ghost use Prim.Native.Nat.{_≤_};
 ghost use lib.ListN.{length};
+ghost use Rattle.listing.specs.Listing.{listRefusal};
 ghost use Rattle.listing.specs.Steps.{linesEnd, begun, linesChunk, linesNext, chunkOf, nextState};
 ghost use Rattle.listing.specs.Pieces.{written};
 use settings_line::Parsed;
@@ -26,7 +26,13 @@ pub enum State {
     Done,
 }
 
+// Document 01: "12 if N exceeds 65,536".
 const GREATEST_LISTING: u64 = 65536;
+
+// The lines of a chunk, and the bytes that a chunk is lent: 320 for each line.
+const CHUNK_LINES: u64 = 64;
+
+pub const CHUNK_SIZE: usize = 20480;
 
 // The first of the refusals 1, 2, 3, 12 that applies to the settings; 0 where none does.
 pub fn list_refusal(q: u64, n: u64, k: u64) -> u32
@@ -62,10 +68,10 @@ fn lines_end(count: u64, index: u64) -> u64
     requires { ⌜ index ≤ count ⌝ }
     ensures { λ r. ⌜ r ≡ linesEnd count index ⌝ }
 {
-    if count - index < 64 {
+    if count - index < CHUNK_LINES {
         return count;
     }
-    index + 64
+    index + CHUNK_LINES
 }
 
 // What a step answers: the state after it, and how many bytes of the chunk it wrote.
@@ -106,7 +112,7 @@ fn lines_step(progress: Progress, chunk: &mut [u8]) -> Stepped
 }
 
 // Writes the next chunk of what is still to be written to the front of the lent one. A size of 0 is the end.
-pub fn step(state: State, chunk: &mut [u8; 20480]) -> Stepped
+pub fn step(state: State, chunk: &mut [u8; CHUNK_SIZE]) -> Stepped
     ensures { λ r. ⌜ (r .state ≡ nextState state) × (r .size ≡ length (chunkOf state))
         × (now (chunk .exit) ≡ written (chunkOf state) (now (chunk .entry))) ⌝ }
 {

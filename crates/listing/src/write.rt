@@ -1,12 +1,15 @@
 // Pieces of the listing, each written to the front of a buffer that has room for it.
 ghost use mathlib.Core.Path.{_≡_};
-ghost use Prim.Native.Nat.{_+_, _-_, _*_, _≤_, _<_};
+ghost use Prim.Native.Nat.{_-_, _≤_, _<_};
 ghost use lib.ListN.{length};
 ghost use Rattle.gaussian.specs.Gaussian.{gaussian};
 ghost use Rattle.listing.specs.Listing.{header, refusedLine, listingLine, linesFrom};
 ghost use Rattle.listing.specs.ListingLaws.{Listable};
 ghost use Rattle.listing.specs.Pieces.{written};
 use extended::ExtendedIndex;
+
+// The bytes that the line writer is lent for a line.
+const LINE_ROOM: usize = 320;
 
 // Writes the header.
 pub(crate) fn write_header(buffer: &mut [u8]) -> usize
@@ -62,7 +65,7 @@ pub(crate) fn write_lines(buffer: &mut [u8], q: u64, n: u64, k: u64, from: u64, 
     let mut at = 0;
     let mut index = from;
     while index < to {
-        let end = at + 320;
+        let end = at + LINE_ROOM;
         at += write_listing_line(&mut buffer[at..end], q, n, k, index);
         index += 1;
     }

@@ -20,7 +20,7 @@ const GREATEST: u64 = 18446744073709551615;
 fn is_digit(byte: u8) -> bool
     ensures { λ r. ⌜ r ≡ isDigit byte ⌝ }
 {
-    48 <= byte && byte <= 57
+    b'0' <= byte && byte <= b'9'
 }
 
 // The number that the digits from the cursor on make, however many they are; None where it is above 2^64 - 1.
@@ -33,7 +33,7 @@ fn read_digits(text: &[u8], at: usize) -> Decimal
         if !is_digit(text[i]) {
             return Decimal::Number(Numeral { value, end: i });
         }
-        let digit = (text[i] - 48) as u64;
+        let digit = (text[i] - b'0') as u64;
         if (GREATEST - digit) / 10 < value {
             return Decimal::None;
         }
@@ -62,7 +62,7 @@ pub fn read_decimal(text: &[u8], at: usize, most: usize) -> Decimal
     if end - at == 1 {
         return Decimal::Number(numeral);
     }
-    if text[at] == 48 {
+    if text[at] == b'0' {
         return Decimal::None;
     }
     Decimal::Number(numeral)

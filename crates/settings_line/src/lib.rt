@@ -5,6 +5,9 @@ ghost use mathlib.Core.Path.{_≡_};
 ghost use Rattle.settings_line.specs.SettingsLine.{parsed};
 use decimal::Decimal;
 
+// Document 01: "three decimal numbers of 1 to 3 digits".
+const MOST_DIGITS: usize = 3;
+
 // The settings, as they were read.
 pub struct Settings {
     pub q: u64,
@@ -22,15 +25,15 @@ pub enum Parsed {
 pub fn parse(text: &[u8]) -> Parsed
     ensures { λ r. ⌜ r ≡ parsed (now (text .entry)) ⌝ }
 {
-    let first = decimal::read_field(text, 0, 3, b',');
+    let first = decimal::read_field(text, 0, MOST_DIGITS, b',');
     let Decimal::Number(q) = first else {
         return Parsed::Malformed;
     };
-    let second = decimal::read_field(text, q.end, 3, b',');
+    let second = decimal::read_field(text, q.end, MOST_DIGITS, b',');
     let Decimal::Number(n) = second else {
         return Parsed::Malformed;
     };
-    let third = decimal::read_field(text, n.end, 3, b'\n');
+    let third = decimal::read_field(text, n.end, MOST_DIGITS, b'\n');
     let Decimal::Number(k) = third else {
         return Parsed::Malformed;
     };
