@@ -7,12 +7,12 @@
 --   chunks-are-the-output == the chunks of these steps are the output, for every input
 --   output-bounded   == the first 13 bytes of the input decide the output
 --   program-writes-the-output == the chunks of 1,026 steps begun with the first 13 bytes are the output of the whole input
---   after-none, after-next == the state after no step, and after one step more
+--   after-none, after-further == the state after no step, and after one step more of a loop that counts down
 -- Assumes nothing.
 use mathlib.Core.Path.{_≡_, refl, ap, ap₂, _∙_, sym}
 use mathlib.Core.Bool.{Bool, true, false}
 use mathlib.Core.List.{List, [], _++_, append-assoc, append-nil}
-use Prim.Native.Nat.{ℕ, zero, suc, _+_, _*_, _-_, _≤_}
+use Prim.Native.Nat.{ℕ, zero, suc, _+_, _*_, _-_, _≤_, _<_}
 use native.Mathlib.Nat.{sub-zero}
 use native.Mathlib.Omega.{arith}
 use borrow.Author.Tests.{eqb-true}
@@ -152,10 +152,17 @@ pub after-none : (s : State) → s ≡ stateAfter 0 s
 unfolding stateAfter
 after-none s = refl
 
-pub after-next : (m : ℕ) (s : State) → stateAfter (suc m) s ≡ nextState (stateAfter m s)
+after-next : (m : ℕ) (s : State) → stateAfter (suc m) s ≡ nextState (stateAfter m s)
 unfolding stateAfter
 after-next zero s = refl
 after-next (suc m) s = after-next m (nextState s)
+
+-- a loop that counts its steps down from `total`
+pub after-further : (total steps : ℕ) (begin s : State) → s ≡ stateAfter (total - steps) begin → 0 < steps → steps ≤ total
+    → nextState s ≡ stateAfter (total - (steps - 1)) begin
+after-further total steps begin s e some within =
+    let count : suc (total - steps) ≡ total - (steps - 1) = omega arith in
+    ap nextState e ∙ sym (after-next (total - steps) begin) ∙ ap (λ m. stateAfter m begin) count
 
 -- the program reads at most 13 bytes of its input
 pub output-bounded : (input : List ℕ) → listingOutput (take 13 input) ≡ listingOutput input

@@ -1,17 +1,17 @@
 -- `list::write_listing` meets its contract: the state is the one after so many steps; an empty chunk ends the listing, and 1,026 steps do.
 use mathlib.Core.Path.{_≡_, _∙_, ap, sym}
-use Prim.Native.Nat.{ℕ, suc, _-_, _≤_}
+use Prim.Native.Nat.{ℕ, _-_, _≤_}
 use native.Mathlib.Omega.{arith}
 use borrow.Author.Needs.{needs}
 use lib.ListN.{length, drop, length-append}
 use lib.Seq.{length-take-le}
-use Rattle.listing.specs.Steps.{chunkOf, nextState, stateAfter}
-use Rattle.listing.specs.Theorems.{chunk-empty, finished, after-none, after-next}
+use Rattle.listing.specs.Steps.{chunkOf, stateAfter}
+use Rattle.listing.specs.Theorems.{chunk-empty, finished, after-none, after-further}
 use Rattle.list.proofs.write_listing.Statement.{statement}
 use Rattle.list.proofs.write_listing.Tie as tie
 
 abbrev Inv-loop : tie.InvT-loop
-Inv-loop state₀ chunk₀ steps₀ state chunk steps = (steps ≤ 1026) × (state ≡ stateAfter (1026 - steps) state₀)
+Inv-loop state₀ chunk₀ steps₀ state chunk steps = (steps ≤ steps₀) × (state ≡ stateAfter (steps₀ - steps) state₀)
 
 abbrev μ-loop : tie.MeasureT-loop
 μ-loop state₀ chunk₀ steps₀ state chunk steps = steps
@@ -57,11 +57,7 @@ loop-again c =
     let s = c .before .before .before .before in
     let i = s .before .before in
     let l = i .before .loop in
-    let begin = i .before .before .args .begin in
-    let test = i .loop-test .taken in
-    let within = l .inv .0 in
-    let count : suc (1026 - l .steps) ≡ 1026 - (l .steps - 1) = omega (arith, test, within) in
-    (omega arith, s .step .ensures .0 ∙ ap nextState (l .inv .1) ∙ sym (after-next (1026 - l .steps) begin) ∙ ap (λ m. stateAfter m begin) count)
+    (omega arith, s .step .ensures .0 ∙ after-further _ (l .steps) (i .before .before .args .begin) (l .state) (l .inv .1) (i .loop-test .taken) (l .inv .0))
 
 returns-3 : tie.Need-returns-3 Inv-loop μ-loop
 returns-3 c =
