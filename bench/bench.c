@@ -1,7 +1,7 @@
 /*
  * Times the library beside the second implementation in one run, and measures the stack that the two C calls use.
  * A time is the median of several samples, taken by turns, each over prepared random inputs; a ratio above 1 says
- * how many times longer the library takes.
+ * how many times longer the library takes. With WITH_FLINT defined, FLINT reduces the same matrices too.
  */
 #define _XOPEN_SOURCE 700
 
@@ -12,6 +12,10 @@
 #include <stdlib.h>
 #include <time.h>
 #include <ucontext.h>
+
+#ifdef WITH_FLINT
+#include <flint/nmod_mat.h>
+#endif
 
 enum { INPUTS = 64, SAMPLES = 15, SAMPLE_NANOSECONDS = 1000000, SQUARE = MAX_LENGTH * MAX_LENGTH };
 
@@ -113,6 +117,36 @@ static void reduce_second(void)
     }
 }
 
+#ifdef WITH_FLINT
+static nmod_mat_t flint_matrices[INPUTS], flint_work;
+
+static void prepare_flint(void)
+{
+    for (unsigned input = 0; input < INPUTS; input++) {
+        nmod_mat_init(flint_matrices[input], (slong)row_count, (slong)now.n, now.q);
+        for (uint64_t place = 0; place < row_count * now.n; place++)
+            nmod_mat_entry(flint_matrices[input], place / now.n, place % now.n) = rows[input][place];
+    }
+    nmod_mat_init(flint_work, (slong)row_count, (slong)now.n, now.q);
+}
+
+static void clear_flint(void)
+{
+    for (unsigned input = 0; input < INPUTS; input++)
+        nmod_mat_clear(flint_matrices[input]);
+    nmod_mat_clear(flint_work);
+}
+
+/* FLINT reduces in place, so that each matrix is copied first, as the other two copy their input. */
+static void reduce_flint(void)
+{
+    for (unsigned input = 0; input < INPUTS; input++) {
+        nmod_mat_set(flint_work, flint_matrices[input]);
+        sink += (uint64_t)nmod_mat_rref(flint_work);
+    }
+}
+#endif
+
 static void receive_library(void)
 {
     for (unsigned input = 0; input < INPUTS; input++)
@@ -169,16 +203,30 @@ static double median(double *times)
 }
 
 /* Both sides by turns; prints one line. */
-static void compare(const char *name, void (*library)(void), void (*second)(void))
+static void compare(const char *name, void (*library)(void), void (*other)(void))
 {
-    double library_times[SAMPLES], second_times[SAMPLES];
-    uint64_t library_repeats = calibrate(library), second_repeats = calibrate(second);
+    double library_times[SAMPLES], other_times[SAMPLES];
+    uint64_t library_repeats = calibrate(library), other_repeats = calibrate(other);
     for (unsigned place = 0; place < SAMPLES; place++) {
         library_times[place] = sample(library, library_repeats) / (double)(library_repeats * INPUTS);
-        second_times[place] = sample(second, second_repeats) / (double)(second_repeats * INPUTS);
+        other_times[place] = sample(other, other_repeats) / (double)(other_repeats * INPUTS);
     }
-    double library_time = median(library_times), second_time = median(second_times);
-    printf("%-44s %12.1f %12.1f %9.2f\n", name, library_time, second_time, library_time / second_time);
+    double library_time = median(library_times), other_time = median(other_times);
+    printf("%-44s %12.1f %12.1f %9.2f\n", name, library_time, other_time, library_time / other_time);
+}
+
+static void compare_reduce(uint64_t q, uint64_t n)
+{
+    char name[64];
+    prepare_reduce(q, n);
+    snprintf(name, sizeof name, "reduce 64 rows q=%" PRIu64 " n=%" PRIu64, q, n);
+    compare(name, reduce_library, reduce_second);
+#ifdef WITH_FLINT
+    prepare_flint();
+    snprintf(name, sizeof name, "the same, beside FLINT");
+    compare(name, reduce_library, reduce_flint);
+    clear_flint();
+#endif
 }
 
 static void compare_setting(setting s, uint64_t chosen)
@@ -203,15 +251,13 @@ static void compare_times_of_all(void)
     static const setting chosen[] = {
         {2, 6, 3, 0}, {2, 16, 6, 0}, {2, 16, 10, 0}, {3, 12, 5, 0}, {5, 10, 4, 0}, {7, 9, 4, 0},
     };
-    printf("%-44s %12s %12s %9s\n", "call", "library ns", "second ns", "ratio");
+    printf("%-44s %12s %12s %9s\n", "call", "library ns", "other ns", "ratio");
     for (unsigned place = 0; place < sizeof chosen / sizeof *chosen; place++) {
         compare_setting(chosen[place], EXTENDED);
         compare_setting(chosen[place], FERRERS);
     }
-    prepare_reduce(2, 16);
-    compare("reduce 64 rows q=2 n=16", reduce_library, reduce_second);
-    prepare_reduce(7, 8);
-    compare("reduce 64 rows q=7 n=8", reduce_library, reduce_second);
+    compare_reduce(2, 16);
+    compare_reduce(7, 8);
 }
 
 /* ---- Stack ---- */

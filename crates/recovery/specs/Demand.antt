@@ -5,8 +5,8 @@
 -- else 8 with the true dimension; Receive alike."
 --   Listing q n k t      == the sentence on the listing
 --   indexAnswer t i      == the answer that is the index i of the numbering t
---   Recovery q n k t i m == the sentence on lists of calls, for the matrix m that Draw leaves for the index i
---   Reception q n k t i m == the same for Receive of none to 64 such rows, and for the nine bytes of its C form
+--   Recovery q n k t i cs == the sentence on lists of calls: what closing after the list cs answers where its rows are of the index i
+--   Reception q n k t i rows == the same for Receive of none to 64 such rows, and for the nine bytes of its C form
 --   Demand q n k t       == all of it
 -- Assumes nothing.
 use mathlib.Core.Path.{_≡_}
@@ -49,7 +49,7 @@ indexAnswer t i = pick (eqb t extended) (Extended (record { 0 = i })) (Ferrers (
 abbrev pub begun : ℕ → ℕ → ℕ → Receiver
 begun q n k = (startOf q n k) .receiver
 
-pub record Recovery (q n k t i : ℕ) (m : List ℕ) (cs : List Call) : Type 0 where
+pub record Recovery (q n k t i : ℕ) (cs : List Call) : Type 0 where
   pub unforged : Unforged (begun q n k) cs
   pub fits : accepted (begun q n k) cs ≡ fitting q n (offered cs)
   pub whole : (closeOf (after (begun q n k) cs) t ≡ indexAnswer t i) ↔ HasDimension q n (accepted (begun q n k) cs) k
@@ -57,12 +57,11 @@ pub record Recovery (q n k t i : ℕ) (m : List ℕ) (cs : List Call) : Type 0 w
       → closeOf (after (begun q n k) cs) t ≡ TooFew (record { dimension = d })
   pub never-more : (d : ℕ) → HasDimension q n (accepted (begun q n k) cs) d → d ≤ k
 
-pub record Reception (q n k t i : ℕ) (m : List ℕ) (rows : List (List ℕ)) : Type 0 where
+pub record Reception (q n k t i : ℕ) (rows : List (List ℕ)) : Type 0 where
   pub whole : (receiveOf q n k t (length rows) (join rows) ≡ indexAnswer t i) ↔ HasDimension q n rows k
   pub fewer : (d : ℕ) → HasDimension q n rows d → d < k → receiveOf q n k t (length rows) (join rows) ≡ TooFew (record { dimension = d })
   pub never-more : (d : ℕ) → HasDimension q n rows d → d ≤ k
-  pub exported : (answer : List ℕ) → length answer ≡ 9
-      → exportedOf q n k t (length rows) (join rows) 9 ≡ receiveOf q n k t (length rows) (join rows)
+  pub exported : exportedOf q n k t (length rows) (join rows) 9 ≡ receiveOf q n k t (length rows) (join rows)
   pub whole-bytes : HasDimension q n rows k → (answer : List ℕ) → length answer ≡ 9
       → exportedBytes q n k t (length rows) (join rows) answer ≡ bytesOf 8 i ++ (k ∷ [])
   pub fewer-bytes : (d : ℕ) → HasDimension q n rows d → d < k → (answer : List ℕ) → length answer ≡ 9
@@ -72,7 +71,7 @@ pub record Demand (q n k t : ℕ) : Type 0 where
   pub listing : Listing q n k t
   pub recovery : (i : ℕ) → i < gaussian q n k → (b : List ℕ) → Buffer n k b → (cs : List Call)
       → All (Mixed q n (rowsOf n k (drawBuffer q n k t i b))) (accepted (begun q n k) cs)
-      → Recovery q n k t i (drawBuffer q n k t i b) cs
+      → Recovery q n k t i cs
   pub reception : (i : ℕ) → i < gaussian q n k → (b : List ℕ) → Buffer n k b → (rows : List (List ℕ)) → length rows ≤ 64
       → All (Mixed q n (rowsOf n k (drawBuffer q n k t i b))) rows
-      → Reception q n k t i (drawBuffer q n k t i b) rows
+      → Reception q n k t i rows

@@ -101,7 +101,7 @@ module _ (q n k t : ℕ) (settings : settingsRefusal q n k ≡ 0) (known : isNum
     spanned = all-map (λ v x. mixed-in-span q law n (rowsOf n k m) (reduced-rows q n R) v .0 x)
 
     pub recovered : (cs : List Call) → All (Mixed q n (rowsOf n k m)) (accepted (begun q n k) cs)
-        → Recovery q n k t (indexOf q n k t m) m cs
+        → Recovery q n k t (indexOf q n k t m) cs
     recovered cs mixed =
         record {
           unforged = unforged q n k settings cs;
@@ -121,13 +121,13 @@ module _ (q n k t : ℕ) (settings : settingsRefusal q n k ≡ 0) (known : isNum
         closed = ap (λ r. closeOf r t) (after-holds q n k settings cs) ∙ close-holding rows (accepted-rows q n k settings cs)
 
     pub received : (rows : List (List ℕ)) → length rows ≤ 64 → All (Mixed q n (rowsOf n k m)) rows
-        → Reception q n k t (indexOf q n k t m) m rows
+        → Reception q n k t (indexOf q n k t m) rows
     received rows few mixed =
         record {
           whole = subst (λ x. (x ≡ indexAnswer t (indexOf q n k t m)) ↔ HasDimension q n rows k) (sym answer) (space-whole q n k t settings m R rows each);
           fewer = λ d h l. answer ∙ space-fewer q n k t settings m R rows each d h l;
           never-more = space-never-more q n k t settings m R rows each;
-          exported = λ bytes l. exported-rows rows valid few ∙ sym answer;
+          exported = exported-rows rows valid few ∙ sym answer;
           whole-bytes = λ h bytes l. exported-left rows valid few bytes l ∙ ap (leftBytes k bytes) (space-whole q n k t settings m R rows each .1 h) ∙ index-bytes bytes (indexOf q n k t m);
           fewer-bytes = λ d h l bytes s. exported-left rows valid few bytes s ∙ ap (leftBytes k bytes) (space-fewer q n k t settings m R rows each d h l);
         }

@@ -48,20 +48,20 @@ module _ (q n k t : ℕ) (settings : settingsRefusal q n k ≡ 0) (known : isNum
 
   recovery : (i : ℕ) → i < gaussian q n k → (b : List ℕ) → Buffer n k b → (cs : List Call)
       → All (Mixed q n (rowsOf n k (drawBuffer q n k t i b))) (accepted (begun q n k) cs)
-      → Recovery q n k t i (drawBuffer q n k t i b) cs
+      → Recovery q n k t i cs
   recovery i h b l cs =
-      subst (λ m. All (Mixed q n (rowsOf n k m)) (accepted (begun q n k) cs) → Recovery q n k t i m cs) (leaves i h b l)
+      subst (λ m. All (Mixed q n (rowsOf n k m)) (accepted (begun q n k) cs) → Recovery q n k t i cs) (leaves i h b l)
       (λ mixed.
-      subst (λ x. Recovery q n k t x (drawn q n k t i) cs) (index-of-drawn q n k t settings i h)
+      subst (λ x. Recovery q n k t x cs) (index-of-drawn q n k t settings i h)
       (recovered q n k t settings known (drawn q n k t i) (drawn-reduced q n k t settings i h) cs mixed))
 
   reception : (i : ℕ) → i < gaussian q n k → (b : List ℕ) → Buffer n k b → (rows : List (List ℕ)) → length rows ≤ 64
       → All (Mixed q n (rowsOf n k (drawBuffer q n k t i b))) rows
-      → Reception q n k t i (drawBuffer q n k t i b) rows
+      → Reception q n k t i rows
   reception i h b l rows few =
-      subst (λ m. All (Mixed q n (rowsOf n k m)) rows → Reception q n k t i m rows) (leaves i h b l)
+      subst (λ m. All (Mixed q n (rowsOf n k m)) rows → Reception q n k t i rows) (leaves i h b l)
       (λ mixed.
-      subst (λ x. Reception q n k t x (drawn q n k t i) rows) (index-of-drawn q n k t settings i h)
+      subst (λ x. Reception q n k t x rows) (index-of-drawn q n k t settings i h)
       (received q n k t settings known (drawn q n k t i) (drawn-reduced q n k t settings i h) rows few mixed))
 
 pub demand-3 : (q n k t : ℕ) → settingsRefusal q n k ≡ 0 → isNumbering t ≡ true → Demand q n k t
