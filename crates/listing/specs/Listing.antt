@@ -1,0 +1,59 @@
+-- What the list program writes. Document 01: "List, the program: 11 if the input isn't one line `q,n,k` ..; 1, 2, 3; 12 if N exceeds 65,536.
+-- A refusal prints one line, `refused,` and the number, ended by a line feed." "Fields: extended index, Ferrers index, rows as digits with `/`
+-- between rows. Lines rise by extended index."
+--   greatestListing        == 65,536
+--   listRefusal q n k      == the first of 1, 2, 3, 12 that applies, else 0
+--   listingLine q n k i    == the line of the space with the extended index i
+--   linesFrom q n k i m    == the lines of the m extended indexes from i on, rising
+--   header                 == "extended,ferrers,rows" and a line feed
+--   refusedWord, refusedLine r == "refused,"; this, the number r and a line feed
+--   listingOutput input    == all that the program writes for the bytes of its input
+-- Assumes nothing.
+use mathlib.Core.Bool.{true, false}
+use mathlib.Core.List.{List, [], _∷_, _++_}
+use Prim.Native.Nat.{ℕ, zero, suc}
+use lib.Dec.{leb, eqb}
+use Rattle.refusal.specs.Refusal.{line as lineRefusal, listing as listingRefusal, refuseUnless, first}
+use Rattle.gaussian.specs.Gaussian.{gaussian}
+use Rattle.gaussian.specs.Settings.{settingsRefusal}
+use Rattle.extended.specs.Ranked.{drawnExtended}
+use Rattle.ferrers.specs.Ferrers.{ferrersIndex}
+use Rattle.text.specs.Text.{lineFeed, numeral}
+use Rattle.text.specs.Line.{lineText}
+use Rattle.settings_line.specs.SettingsLine.{parsed}
+use Rattle.settings_line.specs.declared.Parsed.{Parsed}
+use Rattle.settings_line.specs.declared.Parsed.the-variants.{Settings as settings, Malformed}
+
+abbrev pub greatestListing : ℕ
+greatestListing = 65536
+
+unfoldable pub listRefusal : ℕ → ℕ → ℕ → ℕ
+listRefusal q n k = first (settingsRefusal q n k ∷ refuseUnless (leb (gaussian q n k) greatestListing) listingRefusal ∷ [])
+
+unfoldable pub listingLine : ℕ → ℕ → ℕ → ℕ → List ℕ
+listingLine q n k i = lineText i (ferrersIndex q n k (drawnExtended q n k i)) n k (drawnExtended q n k i)
+
+unfoldable pub linesFrom : ℕ → ℕ → ℕ → ℕ → ℕ → List ℕ
+linesFrom q n k i zero = []
+linesFrom q n k i (suc m) = listingLine q n k i ++ linesFrom q n k (suc i) m
+
+unfoldable pub header : List ℕ
+header =
+    101 ∷ 120 ∷ 116 ∷ 101 ∷ 110 ∷ 100 ∷ 101 ∷ 100 ∷ 44 ∷ 102 ∷ 101 ∷ 114 ∷ 114 ∷ 101 ∷ 114 ∷ 115 ∷ 44 ∷ 114 ∷ 111 ∷ 119 ∷ 115 ∷ 10 ∷ []
+
+unfoldable pub refusedWord : List ℕ
+refusedWord = 114 ∷ 101 ∷ 102 ∷ 117 ∷ 115 ∷ 101 ∷ 100 ∷ 44 ∷ []
+
+unfoldable pub refusedLine : ℕ → List ℕ
+refusedLine r = refusedWord ++ numeral r ++ (lineFeed ∷ [])
+
+abbrev pub outputFor : Parsed → List ℕ
+outputFor Malformed = refusedLine lineRefusal
+outputFor (settings x) =
+    elim (eqb (listRefusal (x .q) (x .n) (x .k)) 0) [
+      | true ↦ header ++ linesFrom (x .q) (x .n) (x .k) 0 (gaussian (x .q) (x .n) (x .k))
+      | false ↦ refusedLine (listRefusal (x .q) (x .n) (x .k))
+    ]
+
+unfoldable pub listingOutput : List ℕ → List ℕ
+listingOutput input = outputFor (parsed input)

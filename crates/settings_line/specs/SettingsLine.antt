@@ -1,0 +1,42 @@
+-- The settings line. Document 01: "one line `q,n,k` of three decimal numbers of 1 to 3 digits, no leading zero except 0 itself, ended by a
+-- line feed with nothing after it".
+--   settingsLine q n k  == that line
+--   IsSettingsLine s x  == the text s is that line of the settings x, three numbers below 1000
+--   parsed s            == what the text s is found to be; `parsed-exactly` of Exactly: the settings of which s is the line, and Malformed
+--                          where there are none such
+-- Assumes nothing.
+use mathlib.Core.Path.{_≡_}
+use mathlib.Core.List.{List, [], _∷_, _++_}
+use Prim.Native.Nat.{ℕ, _<_}
+use lib.Dec.{eqb}
+use lib.ListN.{length}
+use Rattle.basics.specs.Choice.{pick}
+use Rattle.text.specs.Text.{comma, lineFeed, numeral}
+use Rattle.settings_line.specs.Decimal.{fieldAt}
+use Rattle.settings_line.specs.declared.decimal.Numeral.{Numeral}
+use Rattle.settings_line.specs.declared.decimal.Decimal.{Decimal}
+use Rattle.settings_line.specs.declared.decimal.Decimal.the-variants.{Number, None}
+use Rattle.settings_line.specs.declared.Settings.{Settings}
+use Rattle.settings_line.specs.declared.Parsed.{Parsed}
+use Rattle.settings_line.specs.declared.Parsed.the-variants.{Settings as settings, Malformed}
+
+unfoldable pub settingsLine : ℕ → ℕ → ℕ → List ℕ
+settingsLine q n k = numeral q ++ (comma ∷ numeral n ++ (comma ∷ numeral k ++ (lineFeed ∷ [])))
+
+pub record IsSettingsLine (s : List ℕ) (x : Settings) : Type 0 where
+  pub line : s ≡ settingsLine (x .q) (x .n) (x .k)
+  pub q-short : x .q < 1000
+  pub n-short : x .n < 1000
+  pub k-short : x .k < 1000
+
+-- what follows from a number that was read
+abbrev pub after : Decimal → (Numeral → Parsed) → Parsed
+after (Number x) next = next x
+after None next = Malformed
+
+unfoldable pub parsed : List ℕ → Parsed
+parsed s =
+    after (fieldAt s 0 3 comma)
+    (λ q. after (fieldAt s (q .end) 3 comma)
+    (λ n. after (fieldAt s (n .end) 3 lineFeed)
+    (λ k. pick (eqb (k .end) (length s)) (settings (record { q = q .value; n = n .value; k = k .value })) Malformed)))
