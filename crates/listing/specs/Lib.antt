@@ -7,4 +7,3 @@ pub mod StepsLaws
 pub mod Theorems
 pub mod LineFits
 pub mod Filling
-pub mod Examples

@@ -1,0 +1,1 @@
+// Document 01's marked examples, proved: all of this crate is in specs/.
