@@ -1,0 +1,13 @@
+#include "pandrwyg.h"
+#include <stdio.h>
+
+int main(void)
+{
+    const uint8_t rows[3 * 6] = {0, 1, 1, 1, 0, 1,  0, 0, 0, 1, 1, 1,  0, 0, 0, 1, 0, 0};
+    uint8_t answer[PANDRWYG_ANSWER_SIZE] = {0};
+    uint32_t refusal = pandrwyg_receive(2, 6, 3, PANDRWYG_EXTENDED, 3, rows, sizeof rows, answer, sizeof answer);
+    unsigned long long index = 0;
+    for (unsigned place = 8; place-- > 0;)
+        index = index << 8 | answer[place];
+    printf("refusal %u, index %llu, dimension %u\n", refusal, index, answer[8]);
+}
