@@ -4,7 +4,6 @@
 --   unranking-start, -end   == nothing is written yet, and all is
 --   free-asked, write-asked, pivot-asked == of the next column the counts can be asked, and it can be written
 --   unranking-free, -pivot  == it is written, as a free one or as a pivot's
---   each-is, pivot-counted  == the counts that the code goes on with
 --   each-positive, rows-positive == before a free column the count to divide by is above 0, before a pivot's a row is left
 -- Assumes nothing.
 use mathlib.Core.Path.{_≡_, _∙_}
@@ -19,7 +18,7 @@ use Rattle.field.specs.Small.{size-small}
 use Rattle.matrix.specs.Written.{digitAt, unitAt, Blank, Written}
 use Rattle.matrix.specs.Drawing.{Drawing, drawing-start, drawing-blank, drawing-free, drawing-pivot, drawing-end}
 use Rattle.gaussian.specs.Gaussian.{gaussian, greatestCount, tableEntry}
-use Rattle.gaussian.specs.Laws.{withPivot, gaussian-longer-le, gaussian-pivot-le}
+use Rattle.gaussian.specs.Laws.{gaussian-longer-le, gaussian-pivot-le}
 use Rattle.gaussian.specs.Settings.{Accepted}
 use Rattle.gaussian.specs.SettingsLaws.{entry-within}
 use Rattle.extended.specs.Ranked.{extendedShape, drawnExtended}
@@ -61,11 +60,6 @@ pivot-step q n k i m m′ c (suc rows) rest u b w =
       drawing = drawing-pivot q n k c _ m m′ (u .columns) rows _ (rw (shape-pivot q c (suc rows) rest b) at (u .drawing)) (rw e at w);
     })
 
-row-less : (q c rows : ℕ) → 0 < rows → withPivot q c rows ≡ gaussian q c (rows - 1)
-unfolding withPivot
-row-less q c zero h = absurd (omega arith)
-row-less q c (suc rows) h = let e : suc rows - 1 ≡ rows = omega arith in rw e
-
 -- the columns that are left are c and those before it
 module _ {q n k i columns c rows rest : ℕ} {m : List ℕ} (a : Accepted q n k) (all : Unranking q n k i m columns rows rest)
     (next : columns ≡ suc c) where
@@ -87,7 +81,7 @@ module _ {q n k i columns c rows rest : ℕ} {m : List ℕ} (a : Accepted q n k)
   -- those with no pivot in the column c are `free`, `each` for each value of the column
   module _ (free : ℕ) (fe : free ≡ q ^ rows * gaussian q c rows) where
     module _ (each : ℕ) (te : each ≡ tableEntry q c rows) (b : rest < free) where
-      pub each-is : each ≡ gaussian q c rows
+      each-is : each ≡ gaussian q c rows
       each-is = te ∙ entry-within q c rows (le-trans shorter (a .counted))
 
       first : rest < q ^ rows * gaussian q c rows
@@ -116,6 +110,3 @@ module _ {q n k i columns c rows rest : ℕ} {m : List ℕ} (a : Accepted q n k)
 
       pub unranking-pivot : {m′ : List ℕ} → Written n k c (unitAt (rows - 1)) m m′ → Unranking q n k i m′ c (rows - 1) (rest - free)
       unranking-pivot {m′} w = rw fe (pivot-step q n k i m m′ c rows rest u (rw fe at b) w)
-
-      pub pivot-counted : (part : ℕ) → part ≡ withPivot q c rows → part ≡ gaussian q c (rows - 1)
-      pivot-counted part e = e ∙ row-less q c rows rows-positive

@@ -50,32 +50,28 @@ pub fn rank(m: &[u8], q: u64, n: usize, k: usize) -> ExtendedIndex
     ExtendedIndex(index)
 }
 
-// Writes the reduced matrix with the given extended index, column by column from the right. Of the `count` matrices of `rows` rows and as
-// many columns as are left, `rest` is the index of the one to write. The first `free` of them have no pivot in the last column, `each` for
+// Writes the reduced matrix with the given extended index, column by column from the right. Of the matrices of `rows` rows and as many
+// columns as are left, `rest` is the index of the one to write. The first `free` of them have no pivot in the last column, `each` for
 // each value of that column.
 pub fn unrank(m: &mut [u8], q: u64, n: usize, k: usize, index: ExtendedIndex)
     requires { ⌜ Accepted q n k × (index .0 < gaussian q n k) × (length (now m) ≡ k * n) ⌝ }
     ensures { λ _. ⌜ now (m .exit) ≡ drawnExtended q n k (index .0) ⌝ }
 {
     matrix::clear(m);
-    let mut count = gaussian::coefficient(q, n as u64, k as u64);
     let mut rest = index.0;
     let mut rows = k;
     let mut columns = n;
     while columns > 0 {
         let c = columns - 1;
-        let with_pivot = gaussian::pivot_count(q, c as u64, rows as u64);
-        let free = count - with_pivot;
+        let free = gaussian::free_count(q, c as u64, rows as u64);
         if rest < free {
             let each = gaussian::coefficient(q, c as u64, rows as u64);
             matrix::write_digits(m, q, n, k, c, rows, rest / each);
             rest = rest % each;
-            count = each;
         } else {
             matrix::write_pivot(m, n, k, c, rows - 1);
             rest = rest - free;
             rows = rows - 1;
-            count = with_pivot;
         }
         columns = c;
     }

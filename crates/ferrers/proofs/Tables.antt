@@ -1,22 +1,18 @@
--- The tables of partition counts and powers: their rules at the places where the code reads.
+-- The packed partition counts: their rule at the places where the code reads.
 use mathlib.Core.Path.{_≡_, refl, ap, ap₂, _∙_, sym}
 use mathlib.Core.List.{List, []}
-use mathlib.Core.Logic.{_⊎_, inl, inr}
-use Prim.Native.Nat.{ℕ, suc, _+_, _*_, _-_, _^_, _<_, _≤_, _/_, _%_}
-use native.Mathlib.Nat.{pow-le-pow-right}
+use Prim.Native.Nat.{ℕ, suc, _+_, _*_, _-_, _<_, _≤_, _/_, _%_}
 use native.Mathlib.Omega.{arith}
 use borrow.Author.Tests.{le-leb}
 use lib.ListN.{getD, length}
-use Rattle.basics.specs.Order.{le-or-lt}
 use Rattle.basics.specs.Ragged.{ragged, ragged-at}
 use Rattle.basics.specs.Sum.{sum}
 use Rattle.basics.specs.Test.{every, equal, below}
 use Rattle.basics.specs.Table.{tabulate, table-at}
 use Rattle.basics.specs.TableSize.{tabulate-length}
-use Rattle.gaussian.specs.Gaussian.{greatestCount}
 use Rattle.ferrers.specs.Ranked.{boxCount}
 use Rattle.ferrers.specs.BoxTable.{boxRow, boxSize, boxTable, level, nextRows, addRows, shifted, level-at}
-use Rattle.ferrers.specs.Packed.{places, readBox, powers}
+use Rattle.ferrers.specs.Packed.{places, readBox}
 
 -- each row has its length, by one computed test
 rows-sized : (t : ℕ) → t < 289 → length (boxRow t) ≡ boxSize t
@@ -58,15 +54,3 @@ module _ (n k m : ℕ) (narrow : n ≤ 16) (inside : k ≤ n) (room : m ≤ k * 
 pub place-below : (t : ℕ) → t < 153 → getD places t 0 < 888
 unfolding places tabulate sum
 place-below = every (λ t. getD places t 0 < 888) (λ t. below (getD places t 0) 888) 153 .shows tt
-
--- a power within 64 bits has an exponent below that of a power beyond them
-pub exponent-below : (q size m : ℕ) → 1 ≤ q → greatestCount < q ^ size → q ^ m ≤ greatestCount → m < size
-exponent-below q size m positive last small = cases (le-or-lt size m)
-  where
-    cases : (size ≤ m) ⊎ (m < size) → m < size
-    cases (inl h) = absurd (omega (arith, pow-le-pow-right {n = q} positive h, last, small))
-    cases (inr h) = h
-
-pub power-at : (q size m : ℕ) → 1 ≤ q → greatestCount < q ^ size → q ^ m ≤ greatestCount → getD (powers q size) m 0 ≡ q ^ m
-unfolding powers
-power-at q size m positive last small = table-at (λ i. q ^ i) size m (exponent-below q size m positive last small)

@@ -44,7 +44,7 @@ fn nearer(limit: usize, m: usize) -> usize
 fn packed(i: u64) -> u64
     ensures { λ r. ⌜ r ≡ packedCount i ⌝ }
 {
-    (lookup::word(i / 6) >> (i % 6 * 10)) % 1024
+    (lookup::word(i / 4) >> (i % 4 * 16)) % 65536
 }
 
 // p(k, n-k, m), the number of Ferrers diagrams of m dots in a box of k rows and n - k columns; 0 where there is no such box or no room.
@@ -63,19 +63,6 @@ fn box_count(n: usize, k: usize, m: usize) -> u64
     packed(begin + nearer(limit, m) as u64)
 }
 
-// q^m.
-fn power(q: u64, m: usize) -> u64
-    requires { ⌜ T (isFieldSize q) × (m ≤ 64) × (q ^ m ≤ greatestCount) ⌝ }
-    ensures { λ r. ⌜ r ≡ q ^ m ⌝ }
-{
-    match q {
-        2 => 1u64 << m,
-        3 => lookup::of_three(m as u64),
-        5 => lookup::of_five(m as u64),
-        _ => lookup::of_seven(m as u64),
-    }
-}
-
 // The diagrams of m dots that begin with a free column of k dots, n columns being left after it.
 fn free_boxes(n: usize, k: usize, m: usize) -> u64
     requires { ⌜ n ≤ 16 ⌝ }
@@ -92,7 +79,7 @@ fn weight(q: u64, n: usize, k: usize, m: usize) -> u64
     requires { ⌜ Accepted q n k × (m ≤ k * (n - k)) ⌝ }
     ensures { λ r. ⌜ r ≡ boxCount n k m * q ^ m ⌝ }
 {
-    box_count(n, k, m) * power(q, m)
+    box_count(n, k, m) * gaussian::power(q, m)
 }
 
 // The number of spaces whose diagrams have more than m dots.
@@ -164,7 +151,7 @@ fn tableau_of(m: &[u8], q: u64, n: usize, k: usize, v: u16) -> u64
             rows -= 1;
             dots = 0;
         }
-        tableau = tableau * power(q, dots) + matrix::top_value(m, q, n, c - 1, dots);
+        tableau = tableau * gaussian::power(q, dots) + matrix::top_value(m, q, n, c - 1, dots);
         c -= 1;
     }
     tableau
@@ -179,7 +166,7 @@ pub fn rank(m: &[u8], q: u64, n: usize, k: usize) -> FerrersIndex
     let total = size_of(m, n, k, v);
     let place = place_of(m, q, n, k, v, total);
     let tableau = tableau_of(m, q, n, k, v);
-    let index = larger(q, n, k, total) + power(q, total) * place + tableau;
+    let index = larger(q, n, k, total) + gaussian::power(q, total) * place + tableau;
     FerrersIndex(index)
 }
 
@@ -223,7 +210,7 @@ fn draw(m: &mut [u8], q: u64, n: usize, k: usize, size: usize, place: u64, table
         let c = columns - 1;
         let free = free_boxes(c, rows, dots);
         if earlier < free {
-            let base = power(q, dots - rows);
+            let base = gaussian::power(q, dots - rows);
             matrix::write_digits(m, q, n, k, c, rows, entries / base);
             entries = entries % base;
             dots -= rows;
@@ -242,6 +229,6 @@ pub fn unrank(m: &mut [u8], q: u64, n: usize, k: usize, index: FerrersIndex)
     ensures { λ _. ⌜ now (m .exit) ≡ drawnFerrers q n k (index .0) ⌝ }
 {
     let found = find_size(q, n, k, index.0);
-    let base = power(q, found.size);
+    let base = gaussian::power(q, found.size);
     draw(m, q, n, k, found.size, found.rest / base, found.rest % base);
 }

@@ -3,8 +3,6 @@
 --   gaussian-whole      == 1 at k = n
 --   gaussian-positive   == above 0 at k ≤ n
 --   gaussian-free-le    == q^k [n-1, k] ≤ [n, k]
---   withPivot q n k     == the second term of formula (4) for [n + 1, k]: [n, k-1], and 0 at k = 0
---   gaussian-split      == formula (4), at k = 0 too
 --   gaussian-pivot-le   == [n-1, k-1] ≤ [n, k]
 --   gaussian-longer-le  == [n-1, k] ≤ [n, k], for q above 0
 --   gaussian-dual       == [n, k] = [n-1, k] + q^(n-k) [n-1, k-1]
@@ -33,10 +31,6 @@ use native.Mathlib.Nat.{
 use native.Mathlib.Omega.{arith}
 use Rattle.gaussian.specs.Gaussian.{gaussian}
 
-unfoldable pub withPivot : ℕ → ℕ → ℕ → ℕ
-withPivot q n zero = 0
-withPivot q n (suc k) = gaussian q n k
-
 pub gaussian-none : (q n k : ℕ) → n < k → gaussian q n k ≡ 0
 unfolding gaussian
 gaussian-none q n zero h = absurd (not-suc-le-zero h)
@@ -53,11 +47,6 @@ pub gaussian-free-le : (q n k : ℕ) → q ^ k * gaussian q n k ≤ gaussian q (
 unfolding gaussian
 gaussian-free-le q n zero = rw (pow-zero, mul-one) (le-refl 1)
 gaussian-free-le q n (suc k) = le-add-right (q ^ suc k * gaussian q n (suc k)) (gaussian q n k)
-
-pub gaussian-split : (q n k : ℕ) → gaussian q (suc n) k ≡ q ^ k * gaussian q n k + withPivot q n k
-unfolding gaussian withPivot
-gaussian-split q n zero = rw pow-zero
-gaussian-split q n (suc k) = refl
 
 pub gaussian-longer-le : (q n k : ℕ) → 0 < q → gaussian q n k ≤ gaussian q (suc n) k
 gaussian-longer-le q n k h =

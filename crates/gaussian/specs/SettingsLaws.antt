@@ -10,7 +10,6 @@ use mathlib.Core.Path.{_≡_, refl, ap, _∙_, sym}
 use mathlib.Core.Bool.{Bool, true, false}
 use mathlib.Core.List.{_∷_, []}
 use Prim.Native.Nat.{ℕ, zero, suc, _+_, _*_, _-_, _^_, _≤_, _<_}
-use native.Mathlib.Nat.{le-trans}
 use native.Mathlib.Omega.{arith}
 use borrow.Author.Tests.{le-leb, lt-leb}
 use lib.Dec.{T, leb, leb→le}
@@ -21,7 +20,7 @@ use Rattle.basics.specs.Test.{and-left, and-right}
 use Rattle.refusal.specs.Refusal.{fieldSize, shape, count, refuseUnless, first}
 use Rattle.field.specs.Field.{isFieldSize}
 use Rattle.gaussian.specs.Gaussian.{gaussian, greatestCount, tableEntry}
-use Rattle.gaussian.specs.Laws.{withPivot, gaussian-positive, gaussian-pivot-le, gaussian-split}
+use Rattle.gaussian.specs.Laws.{gaussian-positive}
 use Rattle.gaussian.specs.Settings.{rowLengthOk, shapeOk, countOk, settingsRefusal, Accepted}
 
 pub entry-within : (q n k : ℕ) → gaussian q n k ≤ greatestCount → tableEntry q n k ≡ gaussian q n k
@@ -99,16 +98,3 @@ module _ (q n k : ℕ) where
 
   pub entry-of-accepted : Accepted q n k → tableEntry q n k ≡ gaussian q n k
   entry-of-accepted a = entry-within q n k (a .counted)
-
--- the code reads the second term of formula (4) from the table
-pub pivot-by-table : (q n k r : ℕ) → (k ≡ 0 → ⊥) → gaussian q (suc n) k ≤ greatestCount → r ≡ tableEntry q n (k - 1) → r ≡ withPivot q n k
-unfolding withPivot
-pivot-by-table q n zero r ne small e = absurd (ne refl)
-pivot-by-table q n (suc k) r ne small e =
-    let less : suc k - 1 ≡ k = omega arith in
-    e ∙ ap (tableEntry q n) less ∙ entry-within q n k (le-trans (gaussian-pivot-le q n k) small)
-
--- and takes it from the whole for the first
-pub free-by-table : (q n k whole part : ℕ) → whole ≡ gaussian q (suc n) k → part ≡ withPivot q n k
-    → (part ≤ whole) × (whole - part ≡ q ^ k * gaussian q n k)
-free-by-table q n k whole part w p = let s = gaussian-split q n k in (omega arith, omega arith)

@@ -1,5 +1,6 @@
 // The number of spaces, and the settings that are accepted.
 mod lookup;
+mod powers;
 mod table;
 
 ghost use mathlib.Core.Path.{_≡_};
@@ -7,7 +8,6 @@ ghost use Prim.Native.Nat.{suc, _*_, _^_, _≤_, _<_};
 ghost use lib.Dec.{T};
 ghost use Rattle.field.specs.Field.{isFieldSize};
 ghost use Rattle.gaussian.specs.Gaussian.{gaussian, greatestCount, tableEntry};
-ghost use Rattle.gaussian.specs.Laws.{withPivot};
 ghost use Rattle.gaussian.specs.Settings.{rowLengthOk, settingsRefusal, countOf};
 use table::COUNTS;
 
@@ -81,21 +81,23 @@ pub fn count(q: u64, n: u64, k: u64) -> Counted
     Counted::Count(table_entry(q, n, k))
 }
 
-// [n, k - 1], 0 at k = 0: the second term of formula (4), the number of reduced matrices of n + 1 columns whose last column has a pivot.
-pub fn pivot_count(q: u64, n: u64, k: u64) -> u64
-    requires { ⌜ T (isFieldSize q) × (n < 16) × (k ≤ 16) × (gaussian q (suc n) k ≤ greatestCount) ⌝ }
-    ensures { λ r. ⌜ r ≡ withPivot q n k ⌝ }
+// q^m.
+pub fn power(q: u64, m: usize) -> u64
+    requires { ⌜ T (isFieldSize q) × (m ≤ 64) × (q ^ m ≤ greatestCount) ⌝ }
+    ensures { λ r. ⌜ r ≡ q ^ m ⌝ }
 {
-    if k == 0 {
-        return 0;
+    match q {
+        2 => 1u64 << m,
+        3 => powers::of_three(m as u64),
+        5 => powers::of_five(m as u64),
+        _ => powers::of_seven(m as u64),
     }
-    coefficient(q, n, k - 1)
 }
 
-// q^k [n, k], the first term: the number of those whose last column has no pivot.
+// q^k [n, k], the first term of formula (4): the number of reduced matrices of n + 1 columns whose last column has no pivot.
 pub fn free_count(q: u64, n: u64, k: u64) -> u64
     requires { ⌜ T (isFieldSize q) × (n < 16) × (k ≤ 16) × (gaussian q (suc n) k ≤ greatestCount) ⌝ }
     ensures { λ r. ⌜ r ≡ q ^ k * gaussian q n k ⌝ }
 {
-    coefficient(q, n + 1, k) - pivot_count(q, n, k)
+    power(q, k as usize) * coefficient(q, n, k)
 }

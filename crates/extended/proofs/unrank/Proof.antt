@@ -1,10 +1,8 @@
 -- `extended::unrank` meets its contract: the columns from c on are written, and `rest` is the index of what is left of the matrix.
-use mathlib.Core.Path.{_≡_, ap, _∙_, sym}
-use Prim.Native.Nat.{suc, _*_, _-_, _^_, _<_, _≤_}
+use mathlib.Core.Path.{ap, _∙_, sym}
+use Prim.Native.Nat.{_-_, _<_}
 use native.Mathlib.Omega.{arith}
 use lib.ListN.{replicate}
-use Rattle.gaussian.specs.Gaussian.{gaussian}
-use Rattle.gaussian.specs.SettingsLaws.{entry-of-accepted, free-by-table}
 use Rattle.extended.specs.Unranking.{
   Unranking,
   unranking-start,
@@ -12,68 +10,45 @@ use Rattle.extended.specs.Unranking.{
   free-asked,
   write-asked,
   pivot-asked,
-  each-is,
   each-positive,
   unranking-free,
   rows-positive,
-  pivot-counted,
   unranking-pivot,
 }
 use Rattle.extended.proofs.unrank.Statement.{statement}
 use Rattle.extended.proofs.unrank.Tie as tie
 
 abbrev Inv-loop : tie.InvT-loop
-Inv-loop m₀ q n k count₀ rest₀ rows₀ columns₀ m count rest rows columns =
-    Unranking q n k rest₀ m columns rows rest × (count ≡ gaussian q columns rows)
+Inv-loop m₀ q n k rest₀ rows₀ columns₀ m rest rows columns = Unranking q n k rest₀ m columns rows rest
 
 abbrev μ-loop : tie.MeasureT-loop
-μ-loop m₀ q n k count₀ rest₀ rows₀ columns₀ m count rest rows columns = columns
+μ-loop m₀ q n k rest₀ rows₀ columns₀ m rest rows columns = columns
 
 clear-requires : tie.Need-clear-requires Inv-loop μ-loop
 clear-requires c κs = tt
 
-coefficient-requires : tie.Need-coefficient-requires Inv-loop μ-loop
-coefficient-requires c κs = let a = c .before .before .before .before .before .pre .0 in (a .size, a .narrow, omega (arith, a .dimension, a .narrow))
-
 loop-holds : tie.Need-loop-holds Inv-loop μ-loop
 loop-holds c =
-    let s = c .before .before .before .before .before .before in
-    let a = s .args in
-    let cleared = c .before .before .before .clear .ensures ∙ ap (λ size. replicate size 0) (s .pre .2) in
-    (unranking-start (a .q) (a .n) (a .k) _ _ (s .pre .1) cleared, c .coefficient .ensures ∙ entry-of-accepted _ _ _ (s .pre .0))
+    let s = c .before .before .before .before .before in
+    unranking-start _ _ _ _ _ (s .pre .1) (c .before .before .clear .ensures ∙ ap (λ size. replicate size 0) (s .pre .2))
 
 sub-c : tie.Need-sub-c Inv-loop μ-loop
 sub-c c = omega arith
 
-pivot-count-requires : tie.Need-pivot-count-requires Inv-loop μ-loop
-pivot-count-requires c κs = free-asked (c .before .before .before .before .before .before .before .before .pre .0) (c .before .loop .inv .0) (omega arith)
+free-count-requires : tie.Need-free-count-requires Inv-loop μ-loop
+free-count-requires c κs = free-asked (c .before .before .before .before .before .before .before .pre .0) (c .before .loop .inv) (omega arith)
 
--- the matrices without a pivot in the column are what is left of all without those that have one
-difference : (c : tie.After-pivot-count Inv-loop μ-loop) →
-    let l = c .before .before in
-    let q = l .before .before .before .before .before .before .before .args .q in
-    (c .pivot-count .result ≤ l .loop .count)
-    × (l .loop .count - c .pivot-count .result ≡ q ^ l .loop .rows * gaussian q (l .loop .columns - 1) (l .loop .rows))
-difference c =
-    let l = c .before .before in
-    let q = l .before .before .before .before .before .before .before .args .q in
-    let next : l .loop .columns ≡ suc (l .loop .columns - 1) = omega (arith, c .before .loop-test .taken) in
-    free-by-table q (l .loop .columns - 1) (l .loop .rows) _ _ (l .loop .inv .1 ∙ ap (λ j. gaussian q j (l .loop .rows)) next) (c .pivot-count .ensures)
-
-sub-free : tie.Need-sub-free Inv-loop μ-loop
-sub-free c = difference c .0
-
-coefficient-requires-2 : tie.Need-coefficient-requires-2 Inv-loop μ-loop
-coefficient-requires-2 c κs =
+coefficient-requires : tie.Need-coefficient-requires Inv-loop μ-loop
+coefficient-requires c κs =
     let l = c .before .before .before in
-    let asked = free-asked {c = l .loop .columns - 1} (l .before .before .before .before .before .before .before .pre .0) (l .loop .inv .0) (omega arith) in
+    let asked = free-asked {c = l .loop .columns - 1} (l .before .before .before .before .before .before .pre .0) (l .loop .inv) (omega arith) in
     (asked .0, omega (arith, asked .1), asked .2)
 
-positive : (c : tie.After-coefficient2 Inv-loop μ-loop) → 0 < c .coefficient2 .result
+positive : (c : tie.After-coefficient Inv-loop μ-loop) → 0 < c .coefficient .result
 positive c =
     let f = c .before .before in
     let l = f .before .before in
-    each-positive (l .before .before .before .before .before .before .before .pre .0) (l .loop .inv .0) (omega arith) _ (difference f .1) _ (c .coefficient2 .ensures) (c .before .if1 .taken)
+    each-positive (l .before .before .before .before .before .before .pre .0) (l .loop .inv) (omega arith) _ (f .free-count .ensures) _ (c .coefficient .ensures) (c .before .if1 .taken)
 
 div-write-digits : tie.Need-div-write-digits Inv-loop μ-loop
 div-write-digits c = positive (c .before)
@@ -81,7 +56,7 @@ div-write-digits c = positive (c .before)
 write-digits-requires : tie.Need-write-digits-requires Inv-loop μ-loop
 write-digits-requires c κs =
     let l = c .before .before .before .before .before in
-    write-asked (l .before .before .before .before .before .before .before .pre .0) (l .loop .inv .0) (omega (arith, c .before .before .before .before .loop-test .taken))
+    write-asked (l .before .before .before .before .before .before .pre .0) (l .loop .inv) (omega (arith, c .before .before .before .before .loop-test .taken))
 
 rem-rest : tie.Need-rem-rest Inv-loop μ-loop
 rem-rest c = positive (c .before .before .before .before)
@@ -91,7 +66,7 @@ row-left : (c : tie.Else1 Inv-loop μ-loop) → 0 < c .before .before .before .l
 row-left c =
     let f = c .before in
     let l = f .before .before in
-    rows-positive (l .before .before .before .before .before .before .before .pre .0) (l .loop .inv .0) (omega (arith, f .before .loop-test .taken)) _ (difference f .1) (c .if1 .left)
+    rows-positive (l .before .before .before .before .before .before .pre .0) (l .loop .inv) (omega (arith, f .before .loop-test .taken)) _ (f .free-count .ensures) (c .if1 .left)
 
 sub-write-pivot : tie.Need-sub-write-pivot Inv-loop μ-loop
 sub-write-pivot c = row-left (c .before)
@@ -101,7 +76,7 @@ write-pivot-requires c κs =
     let e = c .before in
     let f = e .before in
     let l = f .before .before in
-    pivot-asked (l .before .before .before .before .before .before .before .pre .0) (l .loop .inv .0) (omega (arith, f .before .loop-test .taken)) _ (difference f .1) (e .if1 .left)
+    pivot-asked (l .before .before .before .before .before .before .pre .0) (l .loop .inv) (omega (arith, f .before .loop-test .taken)) _ (f .free-count .ensures) (e .if1 .left)
 
 sub-rows : tie.Need-sub-rows Inv-loop μ-loop
 sub-rows c = row-left (c .before .before .before .before)
@@ -114,11 +89,8 @@ loop-again c =
     let g = c .before .before .before .before in
     let f = g .before .before in
     let l = f .before .before in
-    let a = l .before .before .before .before .before .before .before .pre .0 in
-    let next : l .loop .columns ≡ suc (l .loop .columns - 1) = omega (arith, f .before .loop-test .taken) in (
-      unranking-free a (l .loop .inv .0) next _ (difference f .1) _ (g .coefficient2 .ensures) (g .before .if1 .taken) (c .before .before .write-digits .ensures),
-      each-is a (l .loop .inv .0) next _ (difference f .1) _ (g .coefficient2 .ensures) (g .before .if1 .taken),
-    )
+    let a = l .before .before .before .before .before .before .pre .0 in
+    unranking-free a (l .loop .inv) (omega (arith, f .before .loop-test .taken)) _ (f .free-count .ensures) _ (g .coefficient .ensures) (g .before .if1 .taken) (c .before .before .write-digits .ensures)
 
 loop-less-2 : tie.Need-loop-less-2 Inv-loop μ-loop
 loop-less-2 c = omega (arith, c .before .before .before .before .before .before .loop-test .taken)
@@ -128,17 +100,14 @@ loop-again-2 c =
     let e = c .before .before .before .before in
     let f = e .before in
     let l = f .before .before in
-    let a = l .before .before .before .before .before .before .before .pre .0 in
-    let next : l .loop .columns ≡ suc (l .loop .columns - 1) = omega (arith, f .before .loop-test .taken) in (
-      unranking-pivot a (l .loop .inv .0) next _ (difference f .1) (e .if1 .left) (c .before .before .write-pivot .ensures),
-      pivot-counted a (l .loop .inv .0) next _ (difference f .1) (e .if1 .left) _ (f .pivot-count .ensures),
-    )
+    let a = l .before .before .before .before .before .before .pre .0 in
+    unranking-pivot a (l .loop .inv) (omega (arith, f .before .loop-test .taken)) _ (f .free-count .ensures) (e .if1 .left) (c .before .before .write-pivot .ensures)
 
 same-length : tie.Need-same-length Inv-loop μ-loop
-same-length c = c .before .loop .inv .0 .drawing .sized ∙ sym (c .before .before .before .before .before .before .before .before .pre .2)
+same-length c = c .before .loop .inv .drawing .sized ∙ sym (c .before .before .before .before .before .before .before .pre .2)
 
 returns : tie.Need-returns Inv-loop μ-loop
-returns c = unranking-end (c .before .loop .inv .0) (omega arith)
+returns c = unranking-end (c .before .loop .inv) (omega arith)
 
 pub unrank-spec : {M : Type 1} → statement M
 unrank-spec =
@@ -147,12 +116,10 @@ unrank-spec =
     Inv-loop
     μ-loop
     clear-requires
-    coefficient-requires
     loop-holds
     sub-c
-    pivot-count-requires
-    sub-free
-    coefficient-requires-2
+    free-count-requires
+    coefficient-requires
     div-write-digits
     write-digits-requires
     rem-rest

@@ -16,7 +16,7 @@ shr-result : tie.Need-shr-result
 shr-result c = search needs
 
 returns : tie.Need-returns
-returns c = ap (λ w. w / 2 ^ (c .before .args .i % 6 * 10) % 1024) (c .word .ensures)
+returns c = ap (λ w. w / 2 ^ (c .before .args .i % 4 * 16) % 65536) (c .word .ensures)
 
 pub packed-spec : {M : Type 1} → statement M
 packed-spec = tie.close (tie.spec word-requires mul-result shr-result returns)

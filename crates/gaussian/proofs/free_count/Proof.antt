@@ -1,38 +1,41 @@
--- `gaussian::free_count` meets its contract: formula (4), told from its end.
-use mathlib.Core.Path.{_≡_, ap, _∙_}
-use Prim.Native.Nat.{suc, _*_, _-_, _^_, _≤_}
-use native.Mathlib.Numerals.{add-one}
+-- `gaussian::free_count` meets its contract: the product is at most [n + 1, k].
+use mathlib.Core.Path.{_≡_, ap₂, _∙_}
+use Prim.Native.Nat.{_*_, _^_}
+use native.Mathlib.Nat.{le-trans}
 use native.Mathlib.Omega.{arith}
-use Rattle.gaussian.specs.Gaussian.{gaussian, tableEntry}
-use Rattle.gaussian.specs.SettingsLaws.{entry-within, free-by-table}
+use Rattle.field.specs.Small.{size-small}
+use Rattle.gaussian.specs.Gaussian.{gaussian}
+use Rattle.gaussian.specs.Laws.{gaussian-free-le, gaussian-longer-le}
+use Rattle.gaussian.specs.Powers.{power-small}
+use Rattle.gaussian.specs.SettingsLaws.{entry-within}
 use borrow.Author.Needs.{needs}
 use Rattle.gaussian.proofs.free_count.Statement.{statement}
 use Rattle.gaussian.proofs.free_count.Tie as tie
 
-add-coefficient : tie.Need-add-coefficient
-add-coefficient c = search needs
+power-requires : tie.Need-power-requires
+power-requires c κs =
+    let a = c .args in
+    (c .pre .0, omega (arith, c .pre .2), power-small (a .q) (a .k) (size-small (a .q) (c .pre .0) .1) (c .pre .2))
 
 coefficient-requires : tie.Need-coefficient-requires
 coefficient-requires c κs = search needs
 
-pivot-count-requires : tie.Need-pivot-count-requires
-pivot-count-requires c κs = search needs
-
-difference : (c : tie.After-pivot-count) →
-    let a = c .before .before .args in
-    (c .pivot-count .result ≤ c .before .coefficient .result)
-    × (c .before .coefficient .result - c .pivot-count .result ≡ a .q ^ a .k * gaussian (a .q) (a .n) (a .k))
-difference c =
+product : (c : tie.After-coefficient) →
+    let a = c .before .before .args in c .before .power .result * c .coefficient .result ≡ a .q ^ a .k * gaussian (a .q) (a .n) (a .k)
+product c =
     let s = c .before .before in
     let a = s .args in
-    let whole = c .before .coefficient .ensures ∙ ap (λ n. tableEntry (a .q) n (a .k)) (add-one (a .n)) ∙ entry-within (a .q) (suc (a .n)) (a .k) (s .pre .3) in
-    free-by-table _ _ _ _ _ whole (c .pivot-count .ensures)
+    let size = size-small (a .q) (s .pre .0) in
+    ap₂ _*_ (c .before .power .ensures)
+    (c .coefficient .ensures ∙ entry-within _ _ _ (le-trans (gaussian-longer-le (a .q) (a .n) (a .k) (omega (arith, size .0))) (s .pre .3)))
 
-sub-result : tie.Need-sub-result
-sub-result c = omega (arith, difference c .0)
+mul-result : tie.Need-mul-result
+mul-result c =
+    let s = c .before .before in
+    omega (arith, product c, gaussian-free-le (s .args .q) (s .args .n) (s .args .k), s .pre .3)
 
 returns : tie.Need-returns
-returns c = difference c .1
+returns c = product c
 
 pub free-count-spec : {M : Type 1} → statement M
-free-count-spec = tie.close (tie.spec add-coefficient coefficient-requires pivot-count-requires sub-result returns)
+free-count-spec = tie.close (tie.spec power-requires coefficient-requires mul-result returns)

@@ -1,4 +1,4 @@
--- `ferrers::power` meets its contract: a shift for the powers of 2, and the lists of the others, which a power within 64 bits never leaves.
+-- `gaussian::power` meets its contract: a shift for the powers of 2, and the lists of the others, which a power within 64 bits never leaves.
 use mathlib.Core.Path.{_≡_, ap, subst, _∙_, sym}
 use Prim.Native.Nat.{ℕ, _+_, _*_, _^_, _<_, _≤_, _%_}
 use native.Mathlib.Nat.{one-mul}
@@ -8,12 +8,11 @@ use lib.Pow.{pow-mono, shl-exact}
 use lib.Dec.{lit<}
 use Rattle.basics.specs.Order.{le-or-lt}
 use Rattle.field.specs.Small.{last-size}
 use Rattle.gaussian.specs.Gaussian.{greatestCount}
-use Rattle.ferrers.specs.Packed.{powers}
-use Rattle.ferrers.proofs.Tables.{power-at, exponent-below}
+use Rattle.gaussian.specs.Powers.{powers, power-at, exponent-below}
 use borrow.Author.Needs.{needs}
-use Rattle.ferrers.proofs.power.Statement.{statement}
-use Rattle.ferrers.proofs.power.Tie as tie
+use Rattle.gaussian.proofs.power.Statement.{statement}
+use Rattle.gaussian.proofs.power.Tie as tie
 
 -- what the list of the powers of s answers, where q is s
 found : (s size q m r : ℕ) → q ≡ s → 1 ≤ s → greatestCount < s ^ size → q ^ m ≤ greatestCount → r ≡ getD (powers s size) m 0 → r ≡ q ^ m

@@ -1,10 +1,10 @@
--- `ferrers::lookup::of_seven` meets its contract: each arm by computing the list's entry at its place.
+-- `gaussian::powers::of_seven` meets its contract: each arm by computing the list's entry at its place.
 use mathlib.Core.Path.{refl}
 use Rattle.basics.specs.LookUp.{arm, past}
 use Rattle.basics.specs.Table.{tabulate}
-use Rattle.ferrers.specs.Packed.{powers}
-use Rattle.ferrers.proofs.lookup.of_seven.Statement.{statement}
-use Rattle.ferrers.proofs.lookup.of_seven.Tie as tie
+use Rattle.gaussian.specs.Powers.{powers}
+use Rattle.gaussian.proofs.powers.of_seven.Statement.{statement}
+use Rattle.gaussian.proofs.powers.of_seven.Tie as tie
 
 pub of-seven-spec : {M : Type 1} → statement M
 unfolding powers tabulate
