@@ -66,8 +66,9 @@ pub fn unrank(m: &mut [u8], q: u64, n: usize, k: usize, index: ExtendedIndex)
         let free = gaussian::free_count(q, c as u64, rows as u64);
         if rest < free {
             let each = gaussian::coefficient(q, c as u64, rows as u64);
-            matrix::write_digits(m, q, n, k, c, rows, rest / each);
+            let value = rest / each;
             rest = rest % each;
+            matrix::write_digits(m, q, n, k, c, rows, value);
         } else {
             matrix::write_pivot(m, n, k, c, rows - 1);
             rest = rest - free;

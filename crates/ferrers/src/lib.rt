@@ -211,9 +211,10 @@ fn draw(m: &mut [u8], q: u64, n: usize, k: usize, size: usize, place: u64, table
         let free = free_boxes(c, rows, dots);
         if earlier < free {
             let base = gaussian::power(q, dots - rows);
-            matrix::write_digits(m, q, n, k, c, rows, entries / base);
+            let value = entries / base;
             entries = entries % base;
             dots -= rows;
+            matrix::write_digits(m, q, n, k, c, rows, value);
         } else {
             matrix::write_pivot(m, n, k, c, rows - 1);
             earlier -= free;

@@ -50,16 +50,16 @@ positive c =
     let l = f .before .before in
     each-positive (l .before .before .before .before .before .before .pre .0) (l .loop .inv) (omega arith) _ (f .free-count .ensures) _ (c .coefficient .ensures) (c .before .if1 .taken)
 
-div-write-digits : tie.Need-div-write-digits Inv-loop μ-loop
-div-write-digits c = positive (c .before)
+div-value : tie.Need-div-value Inv-loop μ-loop
+div-value c = positive c
+
+rem-rest : tie.Need-rem-rest Inv-loop μ-loop
+rem-rest c = positive c
 
 write-digits-requires : tie.Need-write-digits-requires Inv-loop μ-loop
 write-digits-requires c κs =
     let l = c .before .before .before .before .before in
     write-asked (l .before .before .before .before .before .before .pre .0) (l .loop .inv) (omega (arith, c .before .before .before .before .loop-test .taken))
-
-rem-rest : tie.Need-rem-rest Inv-loop μ-loop
-rem-rest c = positive (c .before .before .before .before)
 
 -- where the index is past those without a pivot, a row is left
 row-left : (c : tie.Else1 Inv-loop μ-loop) → 0 < c .before .before .before .loop .rows
@@ -120,9 +120,9 @@ unrank-spec =
     sub-c
     free-count-requires
     coefficient-requires
-    div-write-digits
-    write-digits-requires
+    div-value
     rem-rest
+    write-digits-requires
     sub-write-pivot
     write-pivot-requires
     sub-rows

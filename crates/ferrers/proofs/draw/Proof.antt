@@ -63,8 +63,8 @@ power-requires c κs = let z = sized c in (z .size, z .short, z .power)
 positive : (c : tie.After-power Inv-loop μ-loop) → 0 < c .power .result
 positive c = rw (c .power .ensures) (sized (c .before) .positive)
 
-div-write-digits : tie.Need-div-write-digits Inv-loop μ-loop
-div-write-digits c = positive (c .before)
+div-value : tie.Need-div-value Inv-loop μ-loop
+div-value c = positive c
 
 write-digits-requires : tie.Need-write-digits-requires Inv-loop μ-loop
 write-digits-requires c κs =
@@ -72,10 +72,10 @@ write-digits-requires c κs =
     write-asked (l .before .before .before .before .before .before .pre .0) (omega (arith, c .before .before .before .before .loop-test .taken)) (l .loop .inv)
 
 rem-entries : tie.Need-rem-entries Inv-loop μ-loop
-rem-entries c = positive (c .before .before .before .before)
+rem-entries c = positive c
 
 sub-dots : tie.Need-sub-dots Inv-loop μ-loop
-sub-dots c = enough (c .before .before .before .before .before)
+sub-dots c = enough (c .before)
 
 -- a row is left for the pivot
 row-left : (c : tie.Else1 Inv-loop μ-loop) → 1 ≤ c .before .before .before .loop .rows
@@ -132,10 +132,10 @@ draw-spec =
     free-boxes-requires
     sub-power
     power-requires
-    div-write-digits
-    write-digits-requires
+    div-value
     rem-entries
     sub-dots
+    write-digits-requires
     sub-write-pivot
     write-pivot-requires
     sub-rows
