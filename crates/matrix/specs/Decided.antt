@@ -2,11 +2,11 @@
 --   belowTo, below-start, below-more == the test of the first places, one place after the other, by the greatest entry
 --   below-none      == no entry is below 0
 --   entries-below   == every entry is below q exactly where the test holds
+--   or-other, or-true, and-true == tests joined
 --   Clauses n k m i p == document 01's four clauses for row i with its pivot in column p
---   cell-alone      == the test at one row of a column
+--   clauses-of, clauses-true == a row's test holds exactly where they do
 --   pivotOf n k m i == the column of row i's pivot; n where there is no row i
 --   pivot-within    == of a row it is the pivot's
---   row-zero, row-not-one, row-not-rising, row-rest == what is left of a row's test after each clause
 --   reduced-exactly == a matrix of the right length with its entries below q is Reduced exactly where isReduced holds
 -- Assumes nothing.
 use mathlib.Core.Path.{_≡_, refl, ap, ap₂, sym, _∙_}
@@ -15,10 +15,10 @@ use mathlib.Core.List.{List}
 use mathlib.Core.Logic.{_↔_, _⊎_, ⊎-elim}
 use Prim.Native.Nat.{ℕ, suc, _*_, _<_, _≤_}
 use native.Mathlib.Omega.{arith}
-use borrow.Author.Tests.{lt-ltb, le-ltb, eq-eqb, ne-eqb, le-leb, lt-leb, leb-false, eqb-false}
+use borrow.Author.Tests.{lt-ltb, le-ltb, eq-eqb, ne-eqb, lt-leb, leb-false, eqb-false}
 use lib.Dec.{T, eqb, ltb, leb, ltb→lt, eqb→eq, leb→le}
 use lib.ListN.{length, getD}
-use Rattle.basics.specs.Choice.{pick, holds, or-left, or-right}
+use Rattle.basics.specs.Choice.{pick, holds}
 use Rattle.basics.specs.Order.{le-or-lt, same-or-not}
 use Rattle.basics.specs.All.{allBelow, allBelow-start, allBelow-at, allBelow-true, allBelow-false}
 use Rattle.basics.specs.Test.{and-left, and-right}
@@ -64,15 +64,15 @@ below-none m =
     (λ ne. allBelow-false (length m) (λ p. ltb (getD m p 0) 0) 0 (omega (arith, ne)) (le-ltb (getD m 0 0) 0 (omega arith)) ∙ sym (ne-eqb (length m) 0 ne))
     (same-or-not (length m) 0)
 
-or-other : (a b : Bool) → T (a || b) → (T a → ⊥) → T b
+pub or-other : (a b : Bool) → T (a || b) → (T a → ⊥) → T b
 or-other true b t h = absurd (h tt)
 or-other false b t h = t
 
-or-true : (a b : Bool) → (a ≡ false → b ≡ true) → a || b ≡ true
+pub or-true : (a b : Bool) → (a ≡ false → b ≡ true) → a || b ≡ true
 or-true true b h = refl
 or-true false b h = h refl
 
-and-true : (a b : Bool) → a ≡ true → b ≡ true → a && b ≡ true
+pub and-true : (a b : Bool) → a ≡ true → b ≡ true → a && b ≡ true
 and-true a b p q = ap₂ _&&_ p q
 
 -- the four clauses of row i, whose pivot is in column p
@@ -83,7 +83,7 @@ pub record Clauses (n k : ℕ) (m : List ℕ) (i p : ℕ) : Type 0 where
   pub pivot-alone : (a : ℕ) → a < k → (a ≡ i → ⊥) → entry n m a p ≡ 0
 
 module _ (n k : ℕ) (m : List ℕ) (i p : ℕ) where
-  clauses-of : T (rowReduced n k m i p) → Clauses n k m i p
+  pub clauses-of : T (rowReduced n k m i p) → Clauses n k m i p
   unfolding rowReduced columnAlone
   clauses-of t =
       let t₁ = and-right (ltb p n) _ t in
@@ -104,7 +104,7 @@ module _ (n k : ℕ) (m : List ℕ) (i p : ℕ) where
             (λ e. ne (eqb→eq a i e)));
       }
 
-  clauses-true : Clauses n k m i p → rowReduced n k m i p ≡ true
+  pub clauses-true : Clauses n k m i p → rowReduced n k m i p ≡ true
   unfolding rowReduced columnAlone
   clauses-true c =
       and-true _ _ (lt-ltb p n (c .no-zero-row))
@@ -114,41 +114,11 @@ module _ (n k : ℕ) (m : List ℕ) (i p : ℕ) where
       (allBelow-true k (λ a. eqb a i || eqb (entry n m a p) 0)
       (λ a h. or-true (eqb a i) _ (λ e. eq-eqb (entry n m a p) 0 (c .pivot-alone a h (eqb-false a i e)))))))
 
-pub cell-alone : (n : ℕ) (m : List ℕ) (i j a : ℕ) → (a ≡ i) ⊎ (entry n m a j ≡ 0) → eqb a i || eqb (entry n m a j) 0 ≡ true
-cell-alone n m i j a c =
-    ⊎-elim (λ e. or-left (eqb a i) _ (eq-eqb a i e)) (λ e. or-right (eqb a i) _ (eq-eqb (entry n m a j) 0 e)) c
-
 abbrev pub pivotOf : ℕ → ℕ → List ℕ → ℕ → ℕ
 pivotOf n k m i = pick (leb k i) n (pivot n m i)
 
 pub pivot-within : (n k : ℕ) (m : List ℕ) (i : ℕ) → i < k → pivotOf n k m i ≡ pivot n m i
 pivot-within n k m i h = rw (lt-leb k i h)
-
--- the test of a row, clause by clause, as the code makes it
-module _ (n k : ℕ) (m : List ℕ) (i p : ℕ) where
-  pub row-zero : n ≤ p → rowReduced n k m i p ≡ false
-  unfolding rowReduced
-  row-zero h = rw (le-ltb p n h)
-
-  pub row-not-one : p < n → (entry n m i p ≡ 1 → ⊥) → rowReduced n k m i p ≡ false
-  unfolding rowReduced
-  row-not-one h ne = rw (lt-ltb p n h, ne-eqb (entry n m i p) 1 ne)
-
-  pub row-not-rising : p < n → entry n m i p ≡ 1 → pivotOf n k m (suc i) ≤ p → rowReduced n k m i p ≡ false
-  unfolding rowReduced
-  row-not-rising h e g = ⊎-elim last before (le-or-lt k (suc i))
-    where
-      last : k ≤ suc i → rowReduced n k m i p ≡ false
-      last l = let z : n ≤ p = rw (le-leb k (suc i) l) at g in absurd (omega arith)
-
-      before : suc i < k → rowReduced n k m i p ≡ false
-      before l =
-          rw (lt-ltb p n h, eq-eqb (entry n m i p) 1 e, lt-leb k (suc i) l, le-ltb p (pivot n m (suc i)) (rw (lt-leb k (suc i) l) at g))
-
-  pub row-rest : p < n → entry n m i p ≡ 1 → p < pivotOf n k m (suc i) → rowReduced n k m i p ≡ columnAlone n k m i p
-  unfolding rowReduced
-  row-rest h e g =
-      rw (lt-ltb p n h, eq-eqb (entry n m i p) 1 e, or-true (leb k (suc i)) (ltb p (pivot n m (suc i))) (λ f. lt-ltb p (pivot n m (suc i)) (rw (lt-leb k (suc i) (leb-false k (suc i) f)) at g)))
 
 module _ (q n k : ℕ) (m : List ℕ) (sized : length m ≡ k * n) (below : T (entriesBelow q m)) where
   clauses-at : T (isReduced n k m) → (i : ℕ) → i < k → Clauses n k m i (pivot n m i)

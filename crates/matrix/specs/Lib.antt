@@ -3,6 +3,7 @@ pub mod Matrix
 pub mod Decided
 pub mod Lead
 pub mod LeadSearch
+pub mod Above
 pub mod Shape
 pub mod TopValue
 pub mod Written

@@ -4,10 +4,11 @@ ghost use mathlib.Core.List.{List};
 ghost use Prim.Native.Nat.{ℕ, suc, _+_, _*_, _^_, _/_, _%_, _≤_, _<_};
 ghost use lib.Dec.{eqb};
 ghost use lib.ListN.{length, getD, replicate};
-ghost use Rattle.matrix.specs.Matrix.{entry, lead as leadOf, entriesBelow, columnAlone, rowReduced, isReduced, Reduced, identifying as vectorOf};
+ghost use Rattle.matrix.specs.Matrix.{entry, lead as leadOf, entriesBelow, isReduced, Reduced, identifying as vectorOf};
 ghost use Rattle.matrix.specs.Shape.{topValue};
 ghost use Rattle.matrix.specs.Written.{digitAt, unitAt, Blank, Written};
 ghost use Rattle.matrix.specs.Decided.{pivotOf};
+ghost use Rattle.matrix.specs.Above.{rowsAbove, rowAbove};
 
 // The place, counted from `start`, of the first nonzero byte among the n bytes from there on; n where there is none.
 pub fn lead(m: &[u8], start: usize, n: usize) -> usize
@@ -42,28 +43,26 @@ pub fn entries_below(m: &[u8], q: u64) -> bool
     (greatest as u64) < q
 }
 
-// Whether column j is zero but for row i.
-fn column_alone(m: &[u8], n: usize, k: usize, i: usize, j: usize) -> bool
-    requires { ⌜ (j < n) × (k * n ≤ length (now m)) ⌝ }
-    ensures { λ r. ⌜ r ≡ columnAlone n k (now (m .entry)) i j ⌝ }
+// Whether column j is zero in every row above row i.
+fn rows_above(m: &[u8], n: usize, i: usize, j: usize) -> bool
+    requires { ⌜ (j < n) × (i * n ≤ length (now m)) ⌝ }
+    ensures { λ r. ⌜ r ≡ rowsAbove n (now (m .entry)) i j ⌝ }
 {
     let mut a = 0;
-    while a < k {
-        if a != i {
-            if m[a * n + j] != 0 {
-                return false;
-            }
+    while a < i {
+        if m[a * n + j] != 0 {
+            return false;
         }
         a += 1;
     }
     true
 }
 
-// Whether row i, whose pivot is in column p, obeys the four clauses of a reduced matrix; `next` is the column of the next row's pivot, n
-// where there is no next row.
+// Whether row i, whose pivot is in column p, obeys the four clauses of a reduced matrix, its pivot's column read above it only; `next` is
+// the column of the next row's pivot, n where there is no next row.
 fn row_reduced(m: &[u8], n: usize, k: usize, i: usize, p: usize, next: usize) -> bool
     requires { ⌜ (i < k) × (k * n ≤ length (now m)) × (next ≡ pivotOf n k (now m) (suc i)) ⌝ }
-    ensures { λ r. ⌜ r ≡ rowReduced n k (now (m .entry)) i p ⌝ }
+    ensures { λ r. ⌜ r ≡ rowAbove n k (now (m .entry)) i p ⌝ }
 {
     if n <= p {
         return false;
@@ -74,7 +73,7 @@ fn row_reduced(m: &[u8], n: usize, k: usize, i: usize, p: usize, next: usize) ->
     if next <= p {
         return false;
     }
-    column_alone(m, n, k, i, p)
+    rows_above(m, n, i, p)
 }
 
 // The column of row i's pivot; n where there is no row i.
@@ -88,7 +87,8 @@ fn pivot_of(m: &[u8], n: usize, k: usize, i: usize) -> usize
     lead(m, i * n, n)
 }
 
-// Whether the k rows obey the four clauses of a reduced matrix.
+// Whether the k rows obey the four clauses of a reduced matrix. Each row is tested against the rows above and the next one: below a pivot
+// there are zeros, as the pivots lie farther and farther to the right.
 pub fn is_reduced(m: &[u8], n: usize, k: usize) -> bool
     requires { ⌜ k * n ≤ length (now m) ⌝ }
     ensures { λ r. ⌜ r ≡ isReduced n k (now (m .entry)) ⌝ }

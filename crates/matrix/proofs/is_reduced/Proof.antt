@@ -1,4 +1,4 @@
--- `matrix::is_reduced` meets its contract: the test holds at every row passed, and p is the next row's pivot.
+-- `matrix::is_reduced` meets its contract: the test holds at every row passed, with the rows above, and p is the next row's pivot.
 use mathlib.Core.Path.{_≡_, _∙_, ap, sym}
 use mathlib.Core.Bool.{true}
 use Prim.Native.Nat.{suc, _-_, _≤_}
@@ -6,13 +6,14 @@ use native.Mathlib.Numerals.{add-one}
 use native.Mathlib.Omega.{arith}
 use borrow.Author.Tests.{not-true, not-false}
 use Rattle.basics.specs.All.{allBelow, allBelow-start, allBelow-more, allBelow-end, allBelow-false}
-use Rattle.matrix.specs.Matrix.{pivot, rowReduced, isReduced}
+use Rattle.matrix.specs.Matrix.{pivot}
 use Rattle.matrix.specs.Decided.{pivotOf, pivot-within}
+use Rattle.matrix.specs.Above.{rowAbove, reduced-above}
 use Rattle.matrix.proofs.is_reduced.Statement.{statement}
 use Rattle.matrix.proofs.is_reduced.Tie as tie
 
 abbrev Inv-loop : tie.InvT-loop
-Inv-loop m n k p₀ i₀ p i = (i ≤ k) × (allBelow i (λ r. rowReduced n k m r (pivot n m r)) ≡ true) × (p ≡ pivotOf n k m i)
+Inv-loop m n k p₀ i₀ p i = (i ≤ k) × (allBelow i (λ r. rowAbove n k m r (pivot n m r)) ≡ true) × (p ≡ pivotOf n k m i)
 
 abbrev μ-loop : tie.MeasureT-loop
 μ-loop m n k p₀ i₀ p i = k - i
@@ -37,18 +38,18 @@ row-reduced-requires c κs =
 -- what the row's test answered, at the row's own pivot
 answered : (c : tie.After-row-reduced Inv-loop μ-loop) →
     let l = c .before .before .before in let a = l .before .before .before .args in
-    rowReduced (a .n) (a .k) (a .m .now) (l .loop .i) (pivot (a .n) (a .m .now) (l .loop .i)) ≡ c .row-reduced .result
+    rowAbove (a .n) (a .k) (a .m .now) (l .loop .i) (pivot (a .n) (a .m .now) (l .loop .i)) ≡ c .row-reduced .result
 answered c =
     let t = c .before .before in
     let l = t .before in
     let a = l .before .before .before .args in
-    ap (rowReduced (a .n) (a .k) (a .m .now) (l .loop .i))
+    ap (rowAbove (a .n) (a .k) (a .m .now) (l .loop .i))
     (sym (l .loop .inv .2 ∙ pivot-within (a .n) (a .k) (a .m .now) (l .loop .i) (t .loop-test .taken)))
     ∙ sym (c .row-reduced .ensures)
 
 returns : tie.Need-returns Inv-loop μ-loop
-unfolding isReduced
-returns c = sym (allBelow-false _ _ _ (c .before .before .before .loop-test .taken) (answered (c .before) ∙ not-true _ (c .if1 .taken)))
+returns c =
+    sym (reduced-above _ _ _ ∙ allBelow-false _ _ _ (c .before .before .before .loop-test .taken) (answered (c .before) ∙ not-true _ (c .if1 .taken)))
 
 add-i : tie.Need-add-i Inv-loop μ-loop
 add-i c = omega arith
@@ -65,8 +66,7 @@ loop-again c =
     )
 
 returns-2 : tie.Need-returns-2 Inv-loop μ-loop
-unfolding isReduced
-returns-2 c = sym (allBelow-end _ _ _ (c .before .loop .inv .1) (omega arith))
+returns-2 c = sym (reduced-above _ _ _ ∙ allBelow-end _ _ _ (c .before .loop .inv .1) (omega arith))
 
 pub is-reduced-spec : {M : Type 1} → statement M
 is-reduced-spec =
