@@ -57,16 +57,21 @@ pub fn add_product(q: u64, a: u8, c: u8, b: u8) -> u8
     remainder(q, a as u16 + c as u16 * b as u16)
 }
 
+// An element is below q already, which spares it the remainder.
 pub fn negate(q: u64, a: u8) -> u8
     ensures { λ r. ⌜ r ≡ orZero q (negative q a) ⌝ }
 {
-    match q {
-        2 => (2 - a % 2) % 2,
-        3 => (3 - a % 3) % 3,
-        5 => (5 - a % 5) % 5,
-        7 => (7 - a % 7) % 7,
-        _ => 0,
+    if !is_size(q) {
+        return 0;
     }
+    let mut x = a as u64;
+    if q <= x {
+        x = x % q;
+    }
+    if x == 0 {
+        return 0;
+    }
+    (q - x) as u8
 }
 
 // Inverses, a part of eight for each field size. The compiler makes a read-only table of the `match`.
