@@ -1,15 +1,15 @@
 /*
  * Times the library beside the second implementation in one run, and measures the stack that the two C calls use.
  * A time is the median of several samples, taken by turns, each over prepared random inputs; a ratio above 1 says
- * how many times longer the library takes. With WITH_FLINT defined, FLINT reduces the same matrices too.
+ * how many times longer the library takes. With WITH_FLINT defined, FLINT reduces the same matrices too. The list
+ * programs of both are run as processes that write to /dev/null; their time is that of a line.
  */
 #define _XOPEN_SOURCE 700
 
 #include "cases.h"
 #include "harness.h"
+#include "program.h"
 
-#include <stdio.h>
-#include <stdlib.h>
 #include <time.h>
 #include <ucontext.h>
 
@@ -164,6 +164,56 @@ static void receive_second(void)
     }
 }
 
+/* ---- The list programs ---- */
+
+static const char library_list[] = "target/bin/list", other_list[] = "target/bench/list";
+
+/* The files that hold the settings line and take the listing. */
+static int line_end, listing_end;
+
+/* Runs a program over the settings line. */
+static void list(const char *program)
+{
+    lseek(line_end, 0, SEEK_SET);
+    if (program_wait(program_start(program, line_end, listing_end)) != 0)
+        program_trouble(program);
+}
+
+/* The length of a program's listing in a file. */
+static off_t listing_length(const char *program)
+{
+    FILE *file = tmpfile();
+    if (file == NULL)
+        program_trouble("a file for the listing");
+    listing_end = fileno(file);
+    list(program);
+    off_t length = lseek(listing_end, 0, SEEK_END);
+    fclose(file);
+    return length;
+}
+
+/* Writes the settings line; both programs must list, and to the same length. */
+static void prepare_list(const setting *s)
+{
+    off_t start = lseek(line_end, 0, SEEK_SET);
+    int length = dprintf(line_end, SETTING_FORMAT "\n", SETTING_VALUES(s));
+    if (start != 0 || ftruncate(line_end, length) != 0)
+        program_trouble("the settings line");
+    off_t listed = listing_length(library_list);
+    if (listed < (off_t)s->count || listed != listing_length(other_list))
+        program_trouble("other listings");
+}
+
+static void list_library(void)
+{
+    list(library_list);
+}
+
+static void list_second(void)
+{
+    list(other_list);
+}
+
 /* ---- Time ---- */
 
 static double nanoseconds(void)
@@ -202,17 +252,22 @@ static double median(double *times)
     return times[SAMPLES / 2];
 }
 
-/* Both sides by turns; prints one line. */
-static void compare(const char *name, void (*library)(void), void (*other)(void))
+/* Both sides by turns, a run being so many calls or lines; prints one line. */
+static void compare_runs(const char *name, uint64_t units, void (*library)(void), void (*other)(void))
 {
     double library_times[SAMPLES], other_times[SAMPLES];
     uint64_t library_repeats = calibrate(library), other_repeats = calibrate(other);
     for (unsigned place = 0; place < SAMPLES; place++) {
-        library_times[place] = sample(library, library_repeats) / (double)(library_repeats * INPUTS);
-        other_times[place] = sample(other, other_repeats) / (double)(other_repeats * INPUTS);
+        library_times[place] = sample(library, library_repeats) / (double)(library_repeats * units);
+        other_times[place] = sample(other, other_repeats) / (double)(other_repeats * units);
     }
     double library_time = median(library_times), other_time = median(other_times);
     printf("%-44s %12.1f %12.1f %9.2f\n", name, library_time, other_time, library_time / other_time);
+}
+
+static void compare(const char *name, void (*library)(void), void (*other)(void))
+{
+    compare_runs(name, INPUTS, library, other);
 }
 
 static void compare_reduce(uint64_t q, uint64_t n)
@@ -246,6 +301,29 @@ static void compare_setting(setting s, uint64_t chosen)
     compare(name, receive_library, receive_second);
 }
 
+static void compare_list(setting s, int out)
+{
+    char name[64];
+    second_count(s.q, s.n, s.k, &s.count);
+    prepare_list(&s);
+    listing_end = out;
+    snprintf(name, sizeof name, "list " SETTING_FORMAT ", a line of %" PRIu64, SETTING_VALUES(&s), s.count);
+    compare_runs(name, s.count, list_library, list_second);
+}
+
+static void compare_lists(void)
+{
+    FILE *line = tmpfile();
+    int out = open("/dev/null", O_WRONLY);
+    if (line == NULL || out == NO_END)
+        program_trouble("the ends of the list programs");
+    line_end = fileno(line);
+    compare_list((setting){2, 16, 15, 0}, out);
+    compare_list((setting){2, 16, 1, 0}, out);
+    close(out);
+    fclose(line);
+}
+
 static void compare_times_of_all(void)
 {
     static const setting chosen[] = {
@@ -258,6 +336,7 @@ static void compare_times_of_all(void)
     }
     compare_reduce(2, 16);
     compare_reduce(7, 8);
+    compare_lists();
 }
 
 /* ---- Stack ---- */

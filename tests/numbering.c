@@ -71,26 +71,12 @@ static void compare_listing(const setting *s, uint64_t numbering)
     free(matrices);
 }
 
-/* The place of a matrix in a sorted list, by halving. */
-static uint64_t find_matrix(const setting *s, uint64_t numbering, const uint8_t *matrices, const uint8_t *matrix)
-{
-    uint64_t first = 0, last = s->count - 1;
-    while (first < last) {
-        uint64_t middle = first + (last - first) / 2;
-        const uint8_t *other = matrices + middle * width_of(s);
-        if (second_compare(s->q, s->n, s->k, numbering, other, matrix) < 0)
-            first = middle + 1;
-        else
-            last = middle;
-    }
-    return first;
-}
-
 static void compare_conversions(const setting *s)
 {
     uint8_t *extended = sorted_listing(s, EXTENDED), *ferrers = sorted_listing(s, FERRERS);
     for (uint64_t index = 0; index < s->count; index++) {
-        uint64_t other = find_matrix(s, FERRERS, ferrers, extended + index * width_of(s));
+        uint64_t other = second_place(s->q, s->n, s->k, FERRERS, ferrers, (size_t)s->count,
+                                      extended + index * width_of(s));
         bool right = converts(s, EXTENDED, FERRERS, index, other) && converts(s, FERRERS, EXTENDED, other, index) &&
                      converts(s, EXTENDED, EXTENDED, index, index) && converts(s, FERRERS, FERRERS, index, index);
         check(right, SETTING_FORMAT ": conversion of %" PRIu64 " and %" PRIu64, SETTING_VALUES(s), index, other);

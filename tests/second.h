@@ -14,6 +14,7 @@
 
 #include <stddef.h>
 #include <stdint.h>
+#include <stdio.h>
 
 /* Document 01's refusal numbers, in its words. */
 enum {
@@ -28,6 +29,8 @@ enum {
     REFUSED_TOO_FEW = 8,         /* the span has fewer than k dimensions */
     REFUSED_TOO_MANY = 9,        /* the span has more than k dimensions */
     REFUSED_NUMBERING = 10,      /* the numbering is neither 1 nor 2 */
+    REFUSED_LINE = 11,           /* the list program's input isn't one line `q,n,k` */
+    REFUSED_LISTING = 12,        /* N exceeds 65,536 */
     REFUSED_ROW_COUNT = 13,      /* there are more than 64 rows */
     REFUSED_RECEIVER = 14,       /* the receiver is none that Start and Take can leave */
     REFUSED_NO_COUNTERPART = 15  /* the drawn matrix has no number in the other numbering; never given here */
@@ -115,5 +118,15 @@ size_t second_enumerate(uint64_t q, uint64_t n, uint64_t k, uint8_t *out);
 
 /* Sorts matrices that stand one after another by the numbering's order; the place is then the index. */
 void second_sort(uint64_t q, uint64_t n, uint64_t k, uint64_t numbering, uint8_t *matrices, size_t count);
+
+/* The place of a matrix among sorted ones, by halving; one of them is it. */
+size_t second_place(uint64_t q, uint64_t n, uint64_t k, uint64_t numbering,
+                    const uint8_t *matrices, size_t count, const uint8_t *matrix);
+
+/* How a listing is made: by Draw and Number, or from all reduced matrices, sorted. */
+enum { BY_FORMULAS, BY_ORDERS };
+
+/* List: writes what the list program is to write for an input. Refuses 11, 1, 2, 3, 12. */
+uint32_t second_list(const uint8_t *input, size_t length, uint32_t make, FILE *out);
 
 #endif

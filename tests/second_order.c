@@ -177,3 +177,17 @@ void second_sort(uint64_t q, uint64_t n, uint64_t k, uint64_t numbering, uint8_t
     if (k > 0)
         qsort(matrices, count, (size_t)(k * n), compare_for_sort);
 }
+
+size_t second_place(uint64_t q, uint64_t n, uint64_t k, uint64_t numbering,
+                    const uint8_t *matrices, size_t count, const uint8_t *matrix)
+{
+    size_t first = 0, last = count - 1;
+    while (first < last) {
+        size_t middle = first + (last - first) / 2;
+        if (second_compare(q, n, k, numbering, matrices + middle * (size_t)(k * n), matrix) < 0)
+            first = middle + 1;
+        else
+            last = middle;
+    }
+    return first;
+}
