@@ -1,7 +1,7 @@
 -- The partition counts of all boxes, row by row; no part of the meaning.
 --   level n              == for each k of 0 to n the list p(k, n-k, 0), p(k, n-k, 1), .. , p(k, n-k, k(n-k)), from the level before
 --   level-at             == its entries are the partition counts
---   boxTable, boxOffset  == for each n and k of 0 to 16 such a list, one after the other, and where it begins
+--   boxTable             == for each n and k of 0 to 16 such a list, one after the other
 -- Assumes nothing.
 use mathlib.Core.Path.{_≡_, refl, ap, ap₂, _∙_, sym}
 use mathlib.Core.Bool.{Bool, true, false}
@@ -17,7 +17,6 @@ use lib.Seq.{getD-append-add}
 use Rattle.basics.specs.Choice.{pick}
 use Rattle.basics.specs.Order.{le-or-lt}
 use Rattle.basics.specs.Ragged.{ragged}
-use Rattle.basics.specs.Sum.{sum}
 use Rattle.ferrers.specs.Partitions.{partitionsLess}
 use Rattle.ferrers.specs.Ranked.{boxCount}
 use Rattle.ferrers.specs.Box.{box-no-row}
@@ -114,6 +113,3 @@ boxSize t = pick (leb (t % 17) (t / 17)) (suc (t % 17 * (t / 17 - t % 17))) 0
 
 unfoldable pub boxTable : List ℕ
 boxTable = ragged boxRow 0 289
-
-unfoldable pub boxOffset : ℕ → ℕ
-boxOffset t = sum t boxSize

@@ -10,4 +10,3 @@ pub mod TextLaws
 pub mod RowsLaws
 pub mod AppendingLaws
 pub mod LineLaws
-pub mod LineExamples
