@@ -5,7 +5,7 @@ pub mod Shown
 pub mod Appending
 pub mod Writing
 pub mod Line
--- Laws, and examples: no part of the meaning.
+-- Laws: no part of the meaning.
 pub mod TextLaws
 pub mod RowsLaws
 pub mod AppendingLaws
