@@ -1,5 +1,6 @@
--- A row whose first nonzero entry is 1 needs no scaling; no part of the meaning.
---   monic-same   == it is itself, scaled
+-- A row taken once, and a row whose first nonzero entry is 1, need no scaling; no part of the meaning.
+--   once         == once an entry is the entry
+--   monic-same   == a row whose first nonzero entry is 1 is itself, scaled
 -- Assumes nothing.
 use mathlib.Core.Path.{_≡_, ap, _∙_, sym}
 use mathlib.Core.List.{List}
@@ -23,11 +24,14 @@ module _ (q : ℕ) (laws : Laws q) (n : ℕ) (v : List ℕ) (row : Row q n v) wh
       let below : invert q 1 < q = laws .invert-below 1 one in
       sym (laws .multiply-one (invert q 1) below) ∙ laws .multiply-comm (invert q 1) below 1 one ∙ laws .multiply-invert 1 one (zero-lt-suc 0)
 
-  entry-same : getD v (leadOf n v) 0 ≡ 1 → (j : ℕ) → multiply q (invert q (getD v (leadOf n v) 0)) (getD v j 0) ≡ getD v j 0
-  entry-same e j =
+  pub once : (j : ℕ) → multiply q 1 (getD v j 0) ≡ getD v j 0
+  once j =
       let one = laws .one-below in
       let below : getD v j 0 < q = row-below q laws n row j in
-      ap (λ a. multiply q a (getD v j 0)) (ap (invert q) e ∙ inverse-one) ∙ laws .multiply-comm 1 one (getD v j 0) below ∙ laws .multiply-one (getD v j 0) below
+      laws .multiply-comm 1 one (getD v j 0) below ∙ laws .multiply-one (getD v j 0) below
+
+  entry-same : getD v (leadOf n v) 0 ≡ 1 → (j : ℕ) → multiply q (invert q (getD v (leadOf n v) 0)) (getD v j 0) ≡ getD v j 0
+  entry-same e j = ap (λ a. multiply q a (getD v j 0)) (ap (invert q) e ∙ inverse-one) ∙ once j
 
   pub monic-same : getD v (leadOf n v) 0 ≡ 1 → v ≡ monic q n v
   unfolding monic

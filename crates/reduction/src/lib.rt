@@ -16,7 +16,7 @@ ghost use Rattle.reduction.specs.Padded.{padded};
 ghost use Rattle.reduction.specs.Steps.{plusMultiple, multiple, above, cleared, movedDown};
 
 // Adds c times `source` to `target`.
-fn add_multiple(q: u64, n: usize, c: u8, source: &[u8], target: &mut [u8])
+fn add_scaled(q: u64, n: usize, c: u8, source: &[u8], target: &mut [u8])
     requires { ⌜ T (isFieldSize q) × (length (now source) ≡ n) × (length (now target) ≡ n) ⌝ }
     ensures { λ _. ⌜ now (target .exit) ≡ plusMultiple q n c (now (source .entry)) (now (target .entry)) ⌝ }
 {
@@ -24,6 +24,30 @@ fn add_multiple(q: u64, n: usize, c: u8, source: &[u8], target: &mut [u8])
     while j < n {
         target[j] = field::add_product(q, target[j], c, source[j]);
         j += 1;
+    }
+}
+
+// Adds `source` to `target`.
+fn add_row(q: u64, n: usize, source: &[u8], target: &mut [u8])
+    requires { ⌜ T (isFieldSize q) × Row q n (now source) × (length (now target) ≡ n) ⌝ }
+    ensures { λ _. ⌜ now (target .exit) ≡ plusMultiple q n 1 (now (source .entry)) (now (target .entry)) ⌝ }
+{
+    let mut j = 0;
+    while j < n {
+        target[j] = field::add(q, target[j], source[j]);
+        j += 1;
+    }
+}
+
+// Adds c times `source` to `target`. Once, as always where q = 2, needs no product.
+fn add_multiple(q: u64, n: usize, c: u8, source: &[u8], target: &mut [u8])
+    requires { ⌜ T (isFieldSize q) × Row q n (now source) × (length (now target) ≡ n) ⌝ }
+    ensures { λ _. ⌜ now (target .exit) ≡ plusMultiple q n c (now (source .entry)) (now (target .entry)) ⌝ }
+{
+    if c == 1 {
+        add_row(q, n, source, target);
+    } else {
+        add_scaled(q, n, c, source, target);
     }
 }
 
