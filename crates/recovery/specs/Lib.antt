@@ -11,3 +11,4 @@ pub mod Space
 pub mod Recovered
 pub mod Theorem
 pub mod Whole
+pub mod Numbered
