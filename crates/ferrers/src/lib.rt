@@ -47,7 +47,16 @@ fn packed(i: u64) -> u64
     (lookup::word(i / 4) >> (i % 4 * 16)) % 65536
 }
 
-// p(k, n-k, m), the number of Ferrers diagrams of m dots in a box of k rows and n - k columns; 0 where there is no such box or no room.
+// p(k, n-k, m), the number of Ferrers diagrams of m dots in a box of k rows and n - k columns, which has room for `limit` dots.
+fn box_entry(n: usize, k: usize, limit: usize, m: usize) -> u64
+    requires { ⌜ (n ≤ 16) × (k ≤ n) × (limit ≡ k * (n - k)) × (m ≤ limit) ⌝ }
+    ensures { λ r. ⌜ r ≡ boxCount n k m ⌝ }
+{
+    let begin = lookup::begin((n * 9 + shorter(n, k)) as u64);
+    packed(begin + nearer(limit, m) as u64)
+}
+
+// The same for any k and m; 0 where there is no such box or no room.
 fn box_count(n: usize, k: usize, m: usize) -> u64
     requires { ⌜ n ≤ 16 ⌝ }
     ensures { λ r. ⌜ r ≡ boxCount n k m ⌝ }
@@ -59,8 +68,7 @@ fn box_count(n: usize, k: usize, m: usize) -> u64
     if limit < m {
         return 0;
     }
-    let begin = lookup::begin((n * 9 + shorter(n, k)) as u64);
-    packed(begin + nearer(limit, m) as u64)
+    box_entry(n, k, limit, m)
 }
 
 // The diagrams of m dots that begin with a free column of k dots, n columns being left after it.
@@ -79,7 +87,8 @@ fn weight(q: u64, n: usize, k: usize, m: usize) -> u64
     requires { ⌜ Accepted q n k × (m ≤ k * (n - k)) ⌝ }
     ensures { λ r. ⌜ r ≡ boxCount n k m * q ^ m ⌝ }
 {
-    box_count(n, k, m) * gaussian::power(q, m)
+    let limit = k * (n - k);
+    box_entry(n, k, limit, m) * gaussian::power(q, m)
 }
 
 // The number of spaces whose diagrams have more than m dots.
