@@ -35,12 +35,11 @@ fn column_term(m: &[u8], q: u64, n: usize, k: usize, v: u16, j: usize) -> u64
     matrix::top_value(m, q, n, c, rows) * gaussian::coefficient(q, c as u64, rows as u64)
 }
 
-// The extended index of a reduced matrix, by formula (5).
-pub fn rank(m: &[u8], q: u64, n: usize, k: usize) -> ExtendedIndex
-    requires { ⌜ Accepted q n k × Reduced q n k (now m) ⌝ }
+// The extended index of a reduced matrix, by formula (5); v is the identifying vector.
+pub fn rank(m: &[u8], q: u64, n: usize, k: usize, v: u16) -> ExtendedIndex
+    requires { ⌜ Accepted q n k × Reduced q n k (now m) × (v ≡ identifying n k (now m)) ⌝ }
     ensures { λ r. ⌜ r .0 ≡ extendedIndex q n k (now (m .entry)) ⌝ }
 {
-    let v = matrix::identifying(m, n, k);
     let mut index: u64 = 0;
     let mut j = 0;
     while j < n {

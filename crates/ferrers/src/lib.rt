@@ -166,12 +166,11 @@ fn tableau_of(m: &[u8], q: u64, n: usize, k: usize, v: u16) -> u64
     tableau
 }
 
-// The Ferrers index of a reduced matrix, by formula (14).
-pub fn rank(m: &[u8], q: u64, n: usize, k: usize) -> FerrersIndex
-    requires { ⌜ Accepted q n k × Reduced q n k (now m) ⌝ }
+// The Ferrers index of a reduced matrix, by formula (14); v is the identifying vector.
+pub fn rank(m: &[u8], q: u64, n: usize, k: usize, v: u16) -> FerrersIndex
+    requires { ⌜ Accepted q n k × Reduced q n k (now m) × (v ≡ identifying n k (now m)) ⌝ }
     ensures { λ r. ⌜ r .0 ≡ ferrersIndex q n k (now (m .entry)) ⌝ }
 {
-    let v = matrix::identifying(m, n, k);
     let total = size_of(m, n, k, v);
     let place = place_of(m, q, n, k, v, total);
     let tableau = tableau_of(m, q, n, k, v);

@@ -3,6 +3,7 @@
 --   rowsAbove n m i j   == column j is zero in every row above row i
 --   rowAbove n k m i p  == rowReduced with that clause for the whole column's
 --   above-zero, above-not-one, above-not-rising, above-rest == what is left of a row's test after each clause
+--   above-inside, above-rising == a row that passes has a pivot, to the left of the next row's
 --   rising-far          == where each pivot lies to the right of the one above, any lower row's does
 --   reduced-above       == isReduced is the test rowAbove of each row at its pivot
 -- Assumes nothing.
@@ -15,6 +16,7 @@ use native.Mathlib.Nat.{eq-or-lt-of-le, le-of-suc-le-suc, not-suc-le-zero, lt-tr
 use native.Mathlib.Omega.{arith}
 use borrow.Author.Tests.{lt-ltb, le-ltb, eq-eqb, ne-eqb, le-leb, lt-leb, leb-false}
 use lib.Dec.{T, eqb, ltb, leb, ltb→lt, eqb→eq, leb→le}
+use Rattle.basics.specs.Choice.{holds}
 use Rattle.basics.specs.Order.{le-or-lt, trichotomy}
 use Rattle.basics.specs.All.{allBelow, allBelow-at, allBelow-true}
 use Rattle.basics.specs.Test.{and-left, and-right}
@@ -79,6 +81,18 @@ module _ (n k : ℕ) (m : List ℕ) (i p : ℕ) where
             eqb→eq (entry n m a p) 0
             (allBelow-at i (λ a. eqb (entry n m a p) 0) (and-right (leb k (suc i) || ltb p (pivot n m (suc i))) _ t₂) a h);
       }
+
+  pub above-inside : rowAbove n k m i p ≡ true → p < n
+  above-inside e = above-of (holds _ e) .no-zero-row
+
+  pub above-rising : rowAbove n k m i p ≡ true → p < pivotOf n k m (suc i)
+  above-rising e = ⊎-elim last before (le-or-lt k (suc i))
+    where
+      last : k ≤ suc i → p < pivotOf n k m (suc i)
+      last l = rw (le-leb k (suc i) l) (above-inside e)
+
+      before : suc i < k → p < pivotOf n k m (suc i)
+      before l = rw (lt-leb k (suc i) l) (above-of (holds _ e) .pivots-rise l)
 
   above-true : i < k → Clauses n k m i p → rowAbove n k m i p ≡ true
   unfolding rowAbove rowsAbove

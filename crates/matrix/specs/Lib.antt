@@ -20,5 +20,6 @@ pub mod Values
 pub mod Vector
 pub mod VectorRows
 pub mod Bits
+pub mod Gathered
 pub mod BitSum
 pub mod Walk

@@ -1,5 +1,6 @@
 // Reduced matrices as bytes, row by row from the top. The functions ask that the matrix has its k×n bytes; the calls above test it.
 ghost use mathlib.Core.Path.{_≡_};
+ghost use mathlib.Core.Bool.{true};
 ghost use mathlib.Core.List.{List};
 ghost use Prim.Native.Nat.{ℕ, suc, _+_, _*_, _^_, _/_, _%_, _≤_, _<_};
 ghost use lib.Dec.{eqb};
@@ -87,23 +88,45 @@ fn pivot_of(m: &[u8], n: usize, k: usize, i: usize) -> usize
     lead(m, i * n, n)
 }
 
-// Whether the k rows obey the four clauses of a reduced matrix. Each row is tested against the rows above and the next one: below a pivot
-// there are zeros, as the pivots lie farther and farther to the right.
-pub fn is_reduced(m: &[u8], n: usize, k: usize) -> bool
-    requires { ⌜ k * n ≤ length (now m) ⌝ }
-    ensures { λ r. ⌜ r ≡ isReduced n k (now (m .entry)) ⌝ }
+// Whether a matrix is reduced, and its identifying vector where it is.
+pub struct Found {
+    pub reduced: bool,
+    pub vector: u16,
+}
+
+// Whether the k rows obey the four clauses of a reduced matrix, and their identifying vector. Each row is tested against the rows above
+// and the next one: below a pivot there are zeros, as the pivots lie farther and farther to the right.
+pub fn reduced_vector(m: &[u8], n: usize, k: usize) -> Found
+    requires { ⌜ (n ≤ 16) × (length (now m) ≡ k * n) ⌝ }
+    ensures { λ r. ⌜ (r .reduced ≡ isReduced n k (now (m .entry))) × (r .reduced ≡ true → r .vector ≡ vectorOf n k (now (m .entry))) ⌝ }
 {
+    let mut vector: u16 = 0;
     let mut p = pivot_of(m, n, k, 0);
     let mut i = 0;
     while i < k {
         let next = pivot_of(m, n, k, i + 1);
         if !row_reduced(m, n, k, i, p, next) {
-            return false;
+            return Found {
+                reduced: false,
+                vector: 0,
+            };
         }
+        vector += 1u16 << (n - 1 - p);
         p = next;
         i += 1;
     }
-    true
+    Found {
+        reduced: true,
+        vector,
+    }
+}
+
+// Whether the k rows obey the four clauses of a reduced matrix.
+pub fn is_reduced(m: &[u8], n: usize, k: usize) -> bool
+    requires { ⌜ (n ≤ 16) × (length (now m) ≡ k * n) ⌝ }
+    ensures { λ r. ⌜ r ≡ isReduced n k (now (m .entry)) ⌝ }
+{
+    reduced_vector(m, n, k).reduced
 }
 
 // The last digit of x in base q. A constant divisor in each arm spares the division.

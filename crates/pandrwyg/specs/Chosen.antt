@@ -2,7 +2,8 @@
 --   Chosen q n k t          == the settings are accepted and t is a numbering
 --   chosen                  == what is refused by none of 1, 2, 3, 10 is Chosen
 --   draw-accepted           == a Draw that is not refused: Chosen, a buffer of k×n bytes, an index below N
---   number-accepted         == a Number that is not refused: Chosen, a Reduced matrix
+--   EntriesAccepted         == a Number that none of 1, 2, 3, 10, 4, 6 refuses
+--   entries-reduced         == where 7 does not either, the matrix is Reduced
 --   convert-accepted        == a Convert that is not refused: Chosen in both numberings, an index below N
 --   accepted-bytes          == the matrix has at most 256 bytes
 -- Assumes nothing.
@@ -16,7 +17,7 @@ use borrow.Author.Tests.{eqb-true, ltb-true}
 use lib.Dec.{eqb, ltb}
 use lib.ListN.{length}
 use Rattle.basics.specs.Choice.{holds}
-use Rattle.refusal.specs.Refusal.{refuseUnless, notReduced, entry as entryRefusal, index as indexRefusal, numbering as numberingRefusal}
+use Rattle.refusal.specs.Refusal.{refuseUnless, index as indexRefusal, numbering as numberingRefusal}
 use Rattle.refusal.specs.RefusalLaws.{first-zero, test-zero}
 use Rattle.gaussian.specs.Gaussian.{gaussian}
 use Rattle.gaussian.specs.Settings.{settingsRefusal, Accepted}
@@ -24,7 +25,7 @@ use Rattle.gaussian.specs.SettingsLaws.{accepted}
 use Rattle.matrix.specs.Matrix.{entriesBelow, isReduced, Reduced}
 use Rattle.matrix.specs.Decided.{reduced-exactly}
 use Rattle.pandrwyg.specs.Numbering.{isNumbering}
-use Rattle.pandrwyg.specs.Calls.{choiceRefusal, drawRefusal, numberRefusal, convertRefusal}
+use Rattle.pandrwyg.specs.Calls.{choiceRefusal, drawRefusal, convertRefusal}
 
 pub record Chosen (q n k t : ℕ) : Type 0 where
   pub settings : Accepted q n k
@@ -56,24 +57,13 @@ draw-accepted q n k t i size e =
       inside = ltb-true i (gaussian q n k) (test-zero (ltb i (gaussian q n k)) 4 [] (l .1) .0);
     }
 
-pub record NumberAccepted (q n k t : ℕ) (m : List ℕ) : Type 0 where
-  pub choice : Chosen q n k t
-  pub reduced : Reduced q n k m
+pub record EntriesAccepted (q n k t : ℕ) (m : List ℕ) : Type 0 where
+  pub choice : choiceRefusal q n k t ≡ 0
+  pub sized : length m ≡ k * n
+  pub below : entriesBelow q m ≡ true
 
-pub number-accepted : (q n k t : ℕ) (m : List ℕ) → numberRefusal q n k t m ≡ 0 → NumberAccepted q n k t m
-unfolding numberRefusal
-number-accepted q n k t m e =
-    let last = refuseUnless (isReduced n k m) notReduced ∷ [] in
-    let entries = refuseUnless (entriesBelow q m) entryRefusal ∷ last in
-    let c = first-zero (choiceRefusal q n k t) (refuseUnless (eqb (length m) (k * n)) 4 ∷ entries) e in
-    let l = test-zero (eqb (length m) (k * n)) 3 entries (c .1) in
-    let b = test-zero (entriesBelow q m) 5 last (l .1) in
-    let r = test-zero (isReduced n k m) 6 [] (b .1) in
-    record {
-      choice = chosen q n k t (c .0);
-      reduced =
-          reduced-exactly q n k m (eqb-true (length m) (k * n) (l .0)) (holds (entriesBelow q m) (b .0)) .0 (holds (isReduced n k m) (r .0));
-    }
+pub entries-reduced : {q n k t : ℕ} {m : List ℕ} → EntriesAccepted q n k t m → isReduced n k m ≡ true → Reduced q n k m
+entries-reduced {q} {n} {k} {m} a r = reduced-exactly q n k m (a .sized) (holds (entriesBelow q m) (a .below)) .0 (holds (isReduced n k m) r)
 
 pub record ConvertAccepted (q n k from to i : ℕ) : Type 0 where
   pub choice : Chosen q n k from

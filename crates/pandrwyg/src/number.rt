@@ -1,13 +1,14 @@
 // Number: matrix to index.
 ghost use mathlib.Core.Path.{_≡_};
 ghost use Rattle.pandrwyg.specs.Calls.{numberRefusal, numberOf};
+ghost use Rattle.pandrwyg.specs.Chosen.{EntriesAccepted};
 use crate::answer::Numbered;
 use crate::choice;
 use crate::choice::EXTENDED;
 
-// The first refusal of Number that applies; 0 where none does.
-fn number_refusal(q: u64, n: u64, k: u64, t: u64, matrix: &[u8]) -> u32
-    ensures { λ r. ⌜ r ≡ numberRefusal q n k t (now (matrix .entry)) ⌝ }
+// The first refusal of Number that applies, but for 7; 0 where none does.
+fn entries_refusal(q: u64, n: u64, k: u64, t: u64, matrix: &[u8]) -> u32
+    ensures { λ r. ⌜ (r ≡ 0 → EntriesAccepted q n k t (now (matrix .entry))) × ((r ≡ 0 → ⊥) → r ≡ numberRefusal q n k t (now (matrix .entry))) ⌝ }
 {
     let choice = choice::choice_refusal(q, n, k, t);
     if choice != 0 {
@@ -19,9 +20,6 @@ fn number_refusal(q: u64, n: u64, k: u64, t: u64, matrix: &[u8]) -> u32
     if !matrix::entries_below(matrix, q) {
         return refusal::ENTRY;
     }
-    if !matrix::is_reduced(matrix, n as usize, k as usize) {
-        return refusal::NOT_REDUCED;
-    }
     0
 }
 
@@ -29,12 +27,16 @@ fn number_refusal(q: u64, n: u64, k: u64, t: u64, matrix: &[u8]) -> u32
 pub fn number(q: u64, n: u64, k: u64, t: u64, matrix: &[u8]) -> Numbered
     ensures { λ r. ⌜ r ≡ numberOf q n k t (now (matrix .entry)) ⌝ }
 {
-    let refusal = number_refusal(q, n, k, t, matrix);
+    let refusal = entries_refusal(q, n, k, t, matrix);
     if refusal != 0 {
         return Numbered::Refused(refusal);
     }
-    if t == EXTENDED {
-        return Numbered::Extended(extended::rank(matrix, q, n as usize, k as usize));
+    let found = matrix::reduced_vector(matrix, n as usize, k as usize);
+    if !found.reduced {
+        return Numbered::Refused(refusal::NOT_REDUCED);
     }
-    Numbered::Ferrers(ferrers::rank(matrix, q, n as usize, k as usize))
+    if t == EXTENDED {
+        return Numbered::Extended(extended::rank(matrix, q, n as usize, k as usize, found.vector));
+    }
+    Numbered::Ferrers(ferrers::rank(matrix, q, n as usize, k as usize, found.vector))
 }

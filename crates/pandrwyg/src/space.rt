@@ -18,8 +18,9 @@ pub(crate) fn space_answer(q: u64, n: u64, k: u64, t: u64, d: u64, matrix: &[u8]
     if k < d {
         return Received::TooMany(Space { dimension: d });
     }
+    let vector = matrix::identifying(matrix, n as usize, k as usize);
     if t == EXTENDED {
-        return Received::Extended(extended::rank(matrix, q, n as usize, k as usize));
+        return Received::Extended(extended::rank(matrix, q, n as usize, k as usize, vector));
     }
-    Received::Ferrers(ferrers::rank(matrix, q, n as usize, k as usize))
+    Received::Ferrers(ferrers::rank(matrix, q, n as usize, k as usize, vector))
 }

@@ -16,9 +16,6 @@ Inv-loop m q n k v index₀ j₀ index j = (j ≤ n) × (index ≡ sum j (λ i. 
 abbrev μ-loop : tie.MeasureT-loop
 μ-loop m q n k v index₀ j₀ index j = n - j
 
-identifying-requires : tie.Need-identifying-requires Inv-loop μ-loop
-identifying-requires c κs = let s = c .before in (s .pre .0 .narrow, (s .args .q, s .pre .1))
-
 loop-holds : tie.Need-loop-holds Inv-loop μ-loop
 unfolding sum
 loop-holds c = (omega arith, refl)
@@ -28,17 +25,17 @@ add-j c = omega arith
 
 column-term-requires : tie.Need-column-term-requires Inv-loop μ-loop
 column-term-requires c κs =
-    let s = c .before .before .before .before in
-    (s .pre .0, s .pre .1, c .before .before .identifying .ensures, omega arith, omega arith)
+    let s = c .before .before .before in
+    (s .pre .0, s .pre .1, s .pre .2, omega arith, omega arith)
 
 -- the columns passed, and one more
 stepped : (c : tie.After-column-term Inv-loop μ-loop) →
-    let l = c .before .before in let a = l .before .before .before .args in
+    let l = c .before .before in let a = l .before .before .args in
     l .loop .index + c .column-term .result ≡ sum (l .loop .j + 1) (λ i. extendedTerm (a .q) (a .n) (a .k) (a .m .now) (suc i))
 unfolding sum
 stepped c =
     let l = c .before .before in
-    let a = l .before .before .before .args in
+    let a = l .before .before .args in
     let term = extendedTerm (a .q) (a .n) (a .k) (a .m .now) in
     ap₂ _+_ (l .loop .inv .1) (c .column-term .ensures ∙ ap term (add-one (l .loop .j)))
     ∙ ap (λ x. sum x (λ i. term (suc i))) (sym (add-one (l .loop .j)))
@@ -46,7 +43,7 @@ stepped c =
 add-index : tie.Need-add-index Inv-loop μ-loop
 add-index c =
     let l = c .before .before in
-    let s = l .before .before .before in
+    let s = l .before .before in
     omega
     (arith, stepped c, terms-within (size-small (s .args .q) (s .pre .0 .size) .0) (s .pre .1) (l .loop .j + 1) (omega arith), s .pre .0 .counted)
 
@@ -59,7 +56,7 @@ loop-again c = (omega arith, stepped c)
 returns : tie.Need-returns Inv-loop μ-loop
 unfolding extendedIndex
 returns c =
-    let a = c .before .before .before .before .args in
+    let a = c .before .before .before .args in
     let e : c .before .loop .j ≡ a .n = omega arith in
     c .before .loop .inv .1 ∙ ap (λ x. sum x (λ i. extendedTerm (a .q) (a .n) (a .k) (a .m .now) (suc i))) e
 
@@ -69,7 +66,6 @@ rank-spec =
     (tie.spec
     Inv-loop
     μ-loop
-    identifying-requires
     loop-holds
     add-j
     column-term-requires

@@ -9,9 +9,6 @@ use Rattle.ferrers.specs.Weights.{sizes}
 use Rattle.ferrers.proofs.rank.Statement.{statement}
 use Rattle.ferrers.proofs.rank.Tie as tie
 
-identifying-requires : tie.Need-identifying-requires
-identifying-requires c κs = search needs
-
 size-of-requires : tie.Need-size-of-requires
 size-of-requires c κs = search needs
 
@@ -21,37 +18,37 @@ place-of-requires c κs = search needs
 tableau-of-requires : tie.Need-tableau-of-requires
 tableau-of-requires c κs = search needs
 
-within : (c : tie.After-size-of) → let a = c .before .before .before .args in c .size-of .result ≤ a .k * (a .n - a .k)
+within : (c : tie.After-size-of) → let a = c .before .before .args in c .size-of .result ≤ a .k * (a .n - a .k)
 within c =
-    let s = c .before .before .before in
+    let s = c .before .before in
     omega (arith, c .size-of .ensures, parts (s .pre .0) (s .pre .1) .within)
 
 larger-requires : tie.Need-larger-requires
-larger-requires c κs = (c .before .before .before .before .before .pre .0, within (c .before .before))
+larger-requires c κs = (c .before .before .before .before .pre .0, within (c .before .before))
 
 power-requires : tie.Need-power-requires
 power-requires c κs =
     let p = c .before .before .before in
-    let z = sizes (p .size-of .result) (p .before .before .before .pre .0) (within p) in
+    let z = sizes (p .size-of .result) (p .before .before .pre .0) (within p) in
     (z .size, z .short, z .power)
 
 -- the larger diagrams, and the product of the power and the place
 counted : (c : tie.After-power) →
-    let a = c .before .before .before .before .before .before .before .args in
+    let a = c .before .before .before .before .before .before .args in
     c .before .larger .result ≡ largerDiagrams (a .q) (a .k) (a .n - a .k) (size (a .n) (a .k) (a .m .now))
 counted c =
-    let a = c .before .before .before .before .before .before .before .args in
+    let a = c .before .before .before .before .before .before .args in
     c .before .larger .ensures ∙ ap (largerDiagrams (a .q) (a .k) (a .n - a .k)) (c .before .before .before .before .size-of .ensures)
 
 multiplied : (c : tie.After-power) →
-    let a = c .before .before .before .before .before .before .before .args in
+    let a = c .before .before .before .before .before .before .args in
     c .power .result * c .before .before .before .place-of .result ≡ a .q ^ size (a .n) (a .k) (a .m .now) * placeOf (a .n) (a .k) (a .m .now)
 multiplied c =
-    let a = c .before .before .before .before .before .before .before .args in
+    let a = c .before .before .before .before .before .before .args in
     ap₂ _*_ (c .power .ensures ∙ ap (_^_ (a .q)) (c .before .before .before .before .size-of .ensures)) (c .before .before .before .place-of .ensures)
 
-all : (c : tie.After-power) → let a = c .before .before .before .before .before .before .before .args in Parts (a .q) (a .n) (a .k) (a .m .now)
-all c = let s = c .before .before .before .before .before .before .before in parts (s .pre .0) (s .pre .1)
+all : (c : tie.After-power) → let a = c .before .before .before .before .before .before .args in Parts (a .q) (a .n) (a .k) (a .m .now)
+all c = let s = c .before .before .before .before .before .before in parts (s .pre .0) (s .pre .1)
 
 mul-index : tie.Need-mul-index
 mul-index c = omega (arith, multiplied c, all c .product)
@@ -70,7 +67,6 @@ pub rank-spec : {M : Type 1} → statement M
 rank-spec =
     tie.close
     (tie.spec
-    identifying-requires
     size-of-requires
     place-of-requires
     tableau-of-requires

@@ -51,24 +51,32 @@ sized c =
     let a = c .before .before .before .args in
     sym (ap length (take-at (c .unrank .last .0) (drop (a .k * a .n) zeros) (a .k * a .n) (filled c)) ∙ filled c)
 
+reduced : (c : tie.After-unrank) → let a = c .before .before .before .args in
+    Reduced (a .q) (a .n) (a .k) (take (a .k * a .n) (c .unrank .last .0 ++ drop (a .k * a .n) zeros))
+unfolding zeros
+reduced c =
+    let s = c .before .before .before in
+    let a = s .args in
+    subst (Reduced (a .q) (a .n) (a .k)) (sym (front c)) (drawn-is-reduced (a .q) (a .n) (a .k) (a .index) (s .pre .0 .settings) (s .pre .1))
+
 numbered : (c : tie.After-rank) →
-    let a = c .before .before .before .before .before .before .args in
+    let a = c .before .before .before .before .before .before .before .before .args in
     c .rank .result .0 ≡ ferrersIndex (a .q) (a .n) (a .k) (drawnExtended (a .q) (a .n) (a .k) (a .index))
 unfolding zeros
 numbered c =
-    let f = c .before .before .before in
+    let f = c .before .before .before .before .before in
     let a = f .before .before .before .args in
     c .rank .ensures ∙ ap (ferrersIndex (a .q) (a .n) (a .k)) (front f)
 
 -- the line that is written is the listing's
 line : (c : tie.After-rank) →
-    let f = c .before .before .before in
+    let f = c .before .before .before .before .before in
     let a = f .before .before .before .args in
     lineText (a .index) (c .rank .result .0) (a .n) (a .k) (take (a .k * a .n) (f .unrank .last .0 ++ drop (a .k * a .n) zeros))
     ≡ listingLine (a .q) (a .n) (a .k) (a .index)
 unfolding zeros listingLine
 line c =
-    let f = c .before .before .before in
+    let f = c .before .before .before .before .before in
     let a = f .before .before .before .args in
     ap₂ (λ i m. lineText (a .index) i (a .n) (a .k) m) (numbered c) (front f)
 
@@ -90,33 +98,45 @@ array-share-prefix-entries : tie.Need-array-share-prefix-entries
 unfolding zeros
 array-share-prefix-entries c = rw (length-append _ (drop _ zeros)) (omega (arith, filled (c .before)))
 
+slice-aggregate-identifying : tie.Need-slice-aggregate-identifying
+unfolding zeros
+slice-aggregate-identifying c = sized (c .before .before)
+
+identifying-requires : tie.Need-identifying-requires
+unfolding zeros
+identifying-requires c κs =
+    let f = c .before .before in
+    let s = f .before .before .before in
+    (s .pre .0 .settings .narrow, (s .args .q, reduced f))
+
+array-share-prefix-entries-2 : tie.Need-array-share-prefix-entries-2
+unfolding zeros
+array-share-prefix-entries-2 c = rw (length-append _ (drop _ zeros)) (omega (arith, filled (c .before .before .before)))
+
 slice-aggregate-rank : tie.Need-slice-aggregate-rank
 unfolding zeros
-slice-aggregate-rank c = sized (c .before .before)
+slice-aggregate-rank c = sized (c .before .before .before .before)
 
 rank-requires : tie.Need-rank-requires
 unfolding zeros
 rank-requires c κs =
-    let f = c .before .before in
-    let s = f .before .before .before in
-    let a = s .args in (
-      s .pre .0 .settings,
-      subst (Reduced (a .q) (a .n) (a .k)) (sym (front f)) (drawn-is-reduced (a .q) (a .n) (a .k) (a .index) (s .pre .0 .settings) (s .pre .1)),
-    )
+    let v = c .before in
+    let f = v .before .before .before in
+    (f .before .before .before .pre .0 .settings, reduced f, v .identifying .ensures)
 
-array-share-prefix-entries-2 : tie.Need-array-share-prefix-entries-2
+array-share-prefix-entries-3 : tie.Need-array-share-prefix-entries-3
 unfolding zeros
-array-share-prefix-entries-2 c = rw (length-append _ (drop _ zeros)) (omega (arith, filled (c .before .before .before .before)))
+array-share-prefix-entries-3 c = rw (length-append _ (drop _ zeros)) (omega (arith, filled (c .before .before .before .before .before .before)))
 
 slice-aggregate-write-line : tie.Need-slice-aggregate-write-line
 unfolding zeros
-slice-aggregate-write-line c = sized (c .before .before .before .before .before)
+slice-aggregate-write-line c = sized (c .before .before .before .before .before .before .before)
 
 write-line-requires : tie.Need-write-line-requires
 unfolding zeros
 write-line-requires c κs =
     let r = c .before .before in
-    let f = r .before .before .before in
+    let f = r .before .before .before .before .before in
     let s = f .before .before .before in
     let a = s .args in
     let few = s .pre .0 .few in
@@ -137,7 +157,7 @@ unfolding zeros
 returns c =
     let w = c .before .before in
     let r = w .before .before .before in
-    let a = r .before .before .before .before .before .before .args in
+    let a = r .before .before .before .before .before .before .before .before .args in
     let start = a .buffer .now in (
       w .write-line .ensures .0 ∙ ap length (line r),
       w .write-line .ensures .1 ∙ ap (λ t. paste start 0 t (length t)) (line r) ∙ pasted start (listingLine (a .q) (a .n) (a .k) (a .index)),
@@ -152,9 +172,12 @@ write-listing-line-spec =
     slice-aggregate-unrank
     unrank-requires
     array-share-prefix-entries
+    slice-aggregate-identifying
+    identifying-requires
+    array-share-prefix-entries-2
     slice-aggregate-rank
     rank-requires
-    array-share-prefix-entries-2
+    array-share-prefix-entries-3
     slice-aggregate-write-line
     write-line-requires
     same-length

@@ -1,7 +1,7 @@
 -- `pandrwyg::space::space_answer` meets its contract: the dimension is below k, above it, or k.
 use mathlib.Core.Path.{_≡_, _∙_, ap, subst}
 use native.Mathlib.Omega.{arith}
-use Rattle.matrix.specs.Matrix.{Reduced}
+use Rattle.matrix.specs.Matrix.{Reduced, identifying}
 use Rattle.gaussian.specs.Settings.{Accepted}
 use Rattle.pandrwyg.specs.SpaceLaws.{space-few, space-many, space-extended, space-ferrers}
 use Rattle.pandrwyg.specs.declared.answer.Received.the-variants.{Extended, Ferrers}
@@ -21,24 +21,33 @@ returns c = space-few _ _ _ _ _ _ (c .if1 .taken)
 returns-2 : tie.Need-returns-2
 returns-2 c = space-many _ _ _ _ _ _ (c .before .if1 .left) (c .if2 .taken)
 
+identifying-requires : tie.Need-identifying-requires
+identifying-requires c κs = let w = whole c in (w .0 .narrow, (_, w .1))
+
+ranked : (c : tie.After-identifying) → let a = c .before .before .before .before .args in
+    Accepted (a .q) (a .n) (a .k)
+    × Reduced (a .q) (a .n) (a .k) (a .matrix .now)
+    × (c .identifying .result ≡ identifying (a .n) (a .k) (a .matrix .now))
+ranked c = let w = whole (c .before) in (w .0, w .1, c .identifying .ensures)
+
 rank-requires : tie.Need-rank-requires
-rank-requires c κs = whole (c .before)
+rank-requires c κs = ranked (c .before)
 
 returns-3 : tie.Need-returns-3
 returns-3 c =
-    let e = c .before .before in
+    let e = c .before .before .before in
     ap (λ i. Extended (record { 0 = i })) (c .rank .ensures)
     ∙ space-extended _ _ _ _ _ _ (e .before .if1 .left) (e .if2 .left) (c .before .if3 .taken)
 
 rank-requires-2 : tie.Need-rank-requires-2
-rank-requires-2 c κs = whole (c .before)
+rank-requires-2 c κs = ranked (c .before)
 
 returns-4 : tie.Need-returns-4
 returns-4 c =
-    let e = c .before .before in
+    let e = c .before .before .before in
     ap (λ i. Ferrers (record { 0 = i })) (c .rank2 .ensures)
     ∙ space-ferrers _ _ _ _ _ _ (e .before .if1 .left) (e .if2 .left) (c .before .if3 .left)
 
 pub space-answer-spec : {M : Type 1} → statement M
 space-answer-spec =
-    tie.close (tie.spec returns returns-2 rank-requires returns-3 rank-requires-2 returns-4)
+    tie.close (tie.spec returns returns-2 identifying-requires rank-requires returns-3 rank-requires-2 returns-4)

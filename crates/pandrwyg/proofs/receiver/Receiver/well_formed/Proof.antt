@@ -8,6 +8,7 @@ use lib.ListN.{length}
 use lib.Seq.{length-take-le}
 use borrow.Author.Tests.{not-true, not-false}
 use Rattle.gaussian.specs.Settings.{settingsRefusal}
+use Rattle.gaussian.specs.SettingsLaws.{accepted}
 use Rattle.matrix.specs.Matrix.{entriesBelow}
 use Rattle.pandrwyg.specs.Receiver.{used}
 use Rattle.pandrwyg.specs.Formed.{formed-settings, formed-dimension, formed-entries, formed-shape, formed-rest}
@@ -69,7 +70,9 @@ slice-aggregate-is-reduced : tie.Need-slice-aggregate-is-reduced
 slice-aggregate-is-reduced c = sym (part (c .before .before .before .before .before .before))
 
 is-reduced-requires : tie.Need-is-reduced-requires
-is-reduced-requires c κs = omega (arith, part (c .before .before .before .before .before .before))
+is-reduced-requires c κs =
+    let e = c .before .before .before .before .before .before in
+    (accepted _ _ _ (settled (e .before .before)) .narrow, part e)
 
 returns-4 : tie.Need-returns-4
 returns-4 c =

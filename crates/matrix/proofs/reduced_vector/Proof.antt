@@ -1,0 +1,107 @@
+-- `matrix::reduced_vector` meets its contract: the rows passed hold the test and add up to the vector, and p is the next row's pivot.
+use mathlib.Core.Path.{_≡_, _∙_, ap, sym, subst}
+use mathlib.Core.Bool.{false}
+use Prim.Native.Nat.{_-_}
+use native.Mathlib.Numerals.{add-one}
+use native.Mathlib.Omega.{arith}
+use borrow.Author.Tests.{not-true, not-false}
+use lib.Dec.{T}
+use Rattle.matrix.specs.Decided.{pivotOf}
+use Rattle.matrix.specs.Gathered.{Gathered, gathered-start, gathered-fails, Gathering, gathered-step, gathered-end}
+use Rattle.matrix.proofs.reduced_vector.Statement.{statement}
+use Rattle.matrix.proofs.reduced_vector.Tie as tie
+
+abbrev Inv-loop : tie.InvT-loop
+Inv-loop m n k vector₀ p₀ i₀ vector p i = Gathered n k m vector p i
+
+abbrev μ-loop : tie.MeasureT-loop
+μ-loop m n k vector₀ p₀ i₀ vector p i = k - i
+
+pivot-of-requires : tie.Need-pivot-of-requires Inv-loop μ-loop
+pivot-of-requires c κs = omega (arith, c .before .pre .1)
+
+loop-holds : tie.Need-loop-holds Inv-loop μ-loop
+loop-holds c = gathered-start _ _ _ _ (c .pivot-of .ensures)
+
+add-pivot-of : tie.Need-add-pivot-of Inv-loop μ-loop
+add-pivot-of c = omega arith
+
+pivot-of-requires-2 : tie.Need-pivot-of-requires-2 Inv-loop μ-loop
+pivot-of-requires-2 c κs = omega (arith, c .before .before .before .before .pre .1)
+
+row-reduced-requires : tie.Need-row-reduced-requires Inv-loop μ-loop
+row-reduced-requires c κs =
+    let s = c .before .before .before .before .before in (
+      c .before .loop-test .taken,
+      omega (arith, s .pre .1),
+      c .pivot-of2 .ensures ∙ ap (pivotOf (s .args .n) (s .args .k) (s .args .m .now)) (add-one _),
+    )
+
+returns : tie.Need-returns Inv-loop μ-loop
+returns c =
+    let t = c .before .before .before in (
+      sym (gathered-fails (t .before .loop .inv) (t .loop-test .taken) (sym (c .before .row-reduced .ensures) ∙ not-true _ (c .if1 .taken))),
+      λ e. let z : T false = subst T (sym e) tt in absurd z,
+    )
+
+gathering : (c : tie.Else1 Inv-loop μ-loop) →
+    let l = c .before .before .before .before in let a = l .before .before .before .args in
+    Gathering (a .n) (a .k) (a .m .now) (l .loop .vector) (l .loop .p) (l .loop .i)
+gathering c =
+    let t = c .before .before .before in
+    gathered-step (t .before .loop .inv) (t .before .before .before .before .pre .0) (t .loop-test .taken)
+    (sym (c .before .row-reduced .ensures) ∙ not-false _ (c .if1 .left))
+
+sub-vector : tie.Need-sub-vector Inv-loop μ-loop
+sub-vector c = omega (arith, gathering c .inside)
+
+sub-vector-2 : tie.Need-sub-vector-2 Inv-loop μ-loop
+sub-vector-2 c = omega (arith, gathering c .inside)
+
+cast-vector : tie.Need-cast-vector Inv-loop μ-loop
+cast-vector c = omega (arith, c .before .before .before .before .before .before .before .pre .0)
+
+shl-vector : tie.Need-shl-vector Inv-loop μ-loop
+shl-vector c = omega (arith, gathering c .inside, c .before .before .before .before .before .before .before .pre .0)
+
+add-vector : tie.Need-add-vector Inv-loop μ-loop
+add-vector c = record { fits = gathering c .fits }
+
+add-i : tie.Need-add-i Inv-loop μ-loop
+add-i c = omega arith
+
+loop-less : tie.Need-loop-less Inv-loop μ-loop
+loop-less c = omega arith
+
+loop-again : tie.Need-loop-again Inv-loop μ-loop
+loop-again c =
+    let t = c .before .before .before in
+    let a = t .before .before .before .before .args in
+    rw add-one (gathering c .next _ (c .before .before .pivot-of2 .ensures ∙ ap (pivotOf (a .n) (a .k) (a .m .now)) (add-one _)))
+
+returns-2 : tie.Need-returns-2 Inv-loop μ-loop
+returns-2 c =
+    let e = gathered-end (c .before .loop .inv) (omega arith) (c .before .before .before .before .pre .1) in
+    (sym (e .0), λ t. e .1)
+
+pub reduced-vector-spec : {M : Type 1} → statement M
+reduced-vector-spec =
+    tie.close
+    (tie.spec
+    Inv-loop
+    μ-loop
+    pivot-of-requires
+    loop-holds
+    add-pivot-of
+    pivot-of-requires-2
+    row-reduced-requires
+    returns
+    sub-vector
+    sub-vector-2
+    cast-vector
+    shl-vector
+    add-vector
+    add-i
+    loop-less
+    loop-again
+    returns-2)
