@@ -32,10 +32,7 @@ pub fn coefficient(q: u64, n: u64, k: u64) -> u64
     requires { ⌜ T (isFieldSize q) × (n ≤ 16) × (k ≤ 16) ⌝ }
     ensures { λ r. ⌜ r ≡ tableEntry q n k ⌝ }
 {
-    if k > n {
-        return 0;
-    }
-    let at = n * (n + 1) / 2 + k;
+    let at = n * 17 + k;
     match q {
         2 => lookup::of_two(at),
         3 => lookup::of_three(at),

@@ -39,16 +39,18 @@ fn add_row(q: u64, n: usize, source: &[u8], target: &mut [u8])
     }
 }
 
-// Adds c times `source` to `target`. Once, as always where q = 2, needs no product.
+// Adds c times `source` to `target`. Where q = 2 every multiple that isn't zero is the row itself, and needs no product.
 fn add_multiple(q: u64, n: usize, c: u8, source: &[u8], target: &mut [u8])
     requires { ⌜ T (isFieldSize q) × Row q n (now source) × (length (now target) ≡ n) ⌝ }
     ensures { λ _. ⌜ now (target .exit) ≡ plusMultiple q n c (now (source .entry)) (now (target .entry)) ⌝ }
 {
-    if c == 1 {
-        add_row(q, n, source, target);
-    } else {
-        add_scaled(q, n, c, source, target);
+    if q == 2 {
+        if c == 1 {
+            add_row(q, n, source, target);
+            return;
+        }
     }
+    add_scaled(q, n, c, source, target);
 }
 
 // Takes from v the multiple of r that makes v zero at p, r's lead. Where v is zero there already, nothing is left to do.

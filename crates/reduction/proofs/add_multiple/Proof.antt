@@ -8,16 +8,16 @@ use Rattle.reduction.proofs.add_multiple.Tie as tie
 add-row-requires : tie.Need-add-row-requires
 add-row-requires c κs = search needs
 
-add-scaled-requires : tie.Need-add-scaled-requires
-add-scaled-requires c κs = search needs
-
 same-length : tie.Need-same-length
 same-length c = search needs
 
 returns : tie.Need-returns
 returns c =
-    let a = c .before .before .before .before .before .before .before .args in
-    c .before .before .add-row .ensures ∙ ap (λ x. plusMultiple (a .q) (a .n) x (a .source .now) (a .target .now)) (sym (c .before .before .before .before .if1 .taken))
+    let a = c .before .before .before .before .before .before .before .before .args in
+    c .before .before .add-row .ensures ∙ ap (λ x. plusMultiple (a .q) (a .n) x (a .source .now) (a .target .now)) (sym (c .before .before .before .before .if2 .taken))
+
+add-scaled-requires : tie.Need-add-scaled-requires
+add-scaled-requires c κs = search needs
 
 same-length-2 : tie.Need-same-length-2
 same-length-2 c = search needs
@@ -26,4 +26,4 @@ returns-2 : tie.Need-returns-2
 returns-2 c = search needs
 
 pub add-multiple-spec : {M : Type 1} → statement M
-add-multiple-spec = tie.close (tie.spec add-row-requires add-scaled-requires same-length returns same-length-2 returns-2)
+add-multiple-spec = tie.close (tie.spec add-row-requires same-length returns add-scaled-requires same-length-2 returns-2)
