@@ -1,6 +1,6 @@
 /*
  * What the test programs share: a fixed-seed xorshift generator, the accepted settings, matrices written as text,
- * and lent buffers with a known filling.
+ * document 01's figures, and lent buffers with a known filling.
  */
 #ifndef CASES_H
 #define CASES_H
@@ -81,6 +81,27 @@ static inline size_t read_rows(const char *text, uint8_t *entries)
         if (*text != '/')
             entries[length++] = (uint8_t)(*text - '0');
     return length;
+}
+
+/* Compares a matrix with its extended and its Ferrers index. */
+typedef void figure_comparison(uint64_t q, uint64_t n, uint64_t k, const char *rows, uint64_t extended,
+                               uint64_t ferrers);
+
+/* The matrices of document 01's examples of Draw, Number and Convert. */
+static inline void compare_figures(figure_comparison *compare)
+{
+    compare(2, 6, 3, "011001/000100/000011", 928, 1323);
+    compare(2, 6, 3, "000100/000010/000001", 1394, 1394);
+    compare(2, 3, 1, "100", 0, 0);
+    compare(2, 3, 1, "110", 1, 1);
+    compare(2, 3, 1, "010", 2, 4);
+    compare(2, 3, 1, "101", 3, 2);
+    compare(2, 3, 1, "111", 4, 3);
+    compare(2, 3, 1, "011", 5, 5);
+    compare(2, 3, 1, "001", 6, 6);
+    compare(2, 3, 0, "", 0, 0);
+    compare(3, 2, 1, "12", 2, 2);
+    compare(2, 3, 2, "101/011", 3, 3);
 }
 
 /* Steps entries like an odometer, each up to the most; false when all have been seen, and they are zeros again. */

@@ -294,18 +294,7 @@ static void ferrers_tableau_group(void)
 static void bench_group(void)
 {
     check_group_begin("document 01, matrices with their indexes");
-    compare_figure(2, 6, 3, "011001/000100/000011", 928, 1323);
-    compare_figure(2, 6, 3, "000100/000010/000001", 1394, 1394);
-    compare_figure(2, 3, 1, "100", 0, 0);
-    compare_figure(2, 3, 1, "110", 1, 1);
-    compare_figure(2, 3, 1, "010", 2, 4);
-    compare_figure(2, 3, 1, "101", 3, 2);
-    compare_figure(2, 3, 1, "111", 4, 3);
-    compare_figure(2, 3, 1, "011", 5, 5);
-    compare_figure(2, 3, 1, "001", 6, 6);
-    compare_figure(2, 3, 0, "", 0, 0);
-    compare_figure(3, 2, 1, "12", 2, 2);
-    compare_figure(2, 3, 2, "101/011", 3, 3);
+    compare_figures(compare_figure);
     check_group_end();
 }
 

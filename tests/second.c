@@ -213,17 +213,25 @@ uint64_t second_index_of(uint64_t q, unsigned n, unsigned k, uint64_t numbering,
     return ferrers_index(q, n, k, matrix, pivots);
 }
 
+/* The refusals that Number and Draw begin with: those of the setting, then that of the matrix's length. */
+static uint32_t setting_and_length(uint64_t q, uint64_t n, uint64_t k, uint64_t numbering,
+                                   size_t length, uint64_t *count)
+{
+    uint32_t refusal = second_setting(q, n, k, numbering, count);
+    if (refusal == ACCEPTED && length != k * n)
+        return REFUSED_LENGTH;
+    return refusal;
+}
+
 uint32_t second_number(uint64_t q, uint64_t n, uint64_t k, uint64_t numbering,
                        const uint8_t *matrix, size_t length, uint64_t *index)
 {
     uint8_t pivots[MAX_LENGTH];
     uint64_t count;
     *index = 0;
-    uint32_t refusal = second_setting(q, n, k, numbering, &count);
+    uint32_t refusal = setting_and_length(q, n, k, numbering, length, &count);
     if (refusal != ACCEPTED)
         return refusal;
-    if (length != k * n)
-        return REFUSED_LENGTH;
     if (!second_entries_below(q, matrix, length))
         return REFUSED_ENTRY;
     if (!find_pivots((unsigned)n, (unsigned)k, matrix, pivots))
@@ -236,11 +244,9 @@ uint32_t second_draw(uint64_t q, uint64_t n, uint64_t k, uint64_t numbering,
                      uint64_t index, uint8_t *matrix, size_t length)
 {
     uint64_t count;
-    uint32_t refusal = second_setting(q, n, k, numbering, &count);
+    uint32_t refusal = setting_and_length(q, n, k, numbering, length, &count);
     if (refusal != ACCEPTED)
         return refusal;
-    if (length != k * n)
-        return REFUSED_LENGTH;
     if (index >= count)
         return REFUSED_INDEX;
     if (numbering == EXTENDED)

@@ -213,18 +213,7 @@ static void figures_group(void)
     check(memcmp(heights, "\3\3\3\1", 4) == 0, "Example 1, diagram");
     check(memcmp(entries, "\0\1\1\1\0\1\1\1\0\0", 10) == 0, "Example 1, tableau");
     compare_figure(2, 7, 3, "1000110/0010101/0001011", 5062, 6620);
-    compare_figure(2, 6, 3, "011001/000100/000011", 928, 1323);
-    compare_figure(2, 6, 3, "000100/000010/000001", 1394, 1394);
-    compare_figure(2, 3, 1, "100", 0, 0);
-    compare_figure(2, 3, 1, "110", 1, 1);
-    compare_figure(2, 3, 1, "010", 2, 4);
-    compare_figure(2, 3, 1, "101", 3, 2);
-    compare_figure(2, 3, 1, "111", 4, 3);
-    compare_figure(2, 3, 1, "011", 5, 5);
-    compare_figure(2, 3, 1, "001", 6, 6);
-    compare_figure(2, 3, 0, "", 0, 0);
-    compare_figure(3, 2, 1, "12", 2, 2);
-    compare_figure(2, 3, 2, "101/011", 3, 3);
+    compare_figures(compare_figure);
     check_group_end();
 }
 

@@ -2,9 +2,8 @@
 --   lex-irreflexive == no sequence comes before itself
 --   lex-transitive  == what comes before a sequence comes before all that come after it
 --   lex-total       == of two sequences one comes before the other, or they agree at all n places
---   lex-same        == the order is told by the places below n alone
 -- Assumes nothing.
-use mathlib.Core.Path.{_≡_, _∙_, sym, subst, subst₂}
+use mathlib.Core.Path.{_≡_, _∙_, sym, subst}
 use mathlib.Core.Logic.{_⊎_, inl, inr}
 use Prim.Native.Nat.{ℕ, zero, suc, _<_}
 use native.Mathlib.Nat.{le-refl, lt-trans, lt-irrefl, not-suc-le-zero, eq-or-lt-of-le, le-of-suc-le-suc}
@@ -40,16 +39,6 @@ lex-transitive n f g h l r = cases (trichotomy (l .at) (r .at))
           same = λ i b′. l .same i (omega arith) ∙ r .same i b′;
           less = subst (λ x. x < h (r .at)) (sym (l .same (r .at) b)) (r .less);
         }
-
-pub lex-same : (n : ℕ) (f g f′ g′ : ℕ → ℕ) → ((i : ℕ) → i < n → f i ≡ f′ i) → ((i : ℕ) → i < n → g i ≡ g′ i) → Lex n f g → Lex n f′ g′
-lex-same n f g f′ g′ e d l =
-    let inside : l .at < n = l .within in
-    record {
-      at = l .at;
-      within = l .within;
-      same = λ i b. sym (e i (omega arith)) ∙ l .same i b ∙ d i (omega arith);
-      less = subst₂ (λ x y. x < y) (e (l .at) inside) (d (l .at) inside) (l .less);
-    }
 
 lex-longer : (n : ℕ) (f g : ℕ → ℕ) → Lex n f g → Lex (suc n) f g
 lex-longer n f g l = record { at = l .at; within = omega arith; same = l .same; less = l .less }

@@ -2,7 +2,6 @@
 --   write-none   == before the first entry it is the list
 --   write-read   == what stands at the next place is the list's own
 --   write-more   == one more entry
---   write-length == it is as long as the list
 --   write-all    == with all entries written it is the table
 --   table-itself == a list is the table of its own entries
 -- Assumes nothing.
@@ -11,7 +10,7 @@ use mathlib.Core.List.{List, _++_, append-nil}
 use Prim.Native.Nat.{ℕ, suc, _+_, _<_, _≤_}
 use native.Mathlib.Numerals.{add-one}
 use native.Mathlib.Omega.{arith}
-use lib.ListN.{length, getD, drop, set, length-append, length-drop, drop-of-length-le}
+use lib.ListN.{length, getD, drop, set, drop-of-length-le}
 use lib.Seq.{drop-cons, set-at, getD-at, append-snoc, ext-getD}
 use Rattle.basics.specs.Table.{tabulate, table-at}
 use Rattle.basics.specs.TableLaws.{tabulate-last}
@@ -39,9 +38,6 @@ module _ (f : ℕ → ℕ) (l : List ℕ) where
       ∙ sym (append-snoc (tabulate f 0 j) (f j) (drop (suc j) l))
       ∙ ap (λ (x : List ℕ). x ++ drop (suc j) l) (sym (tabulate-last f j))
       ∙ ap (λ k. tabulate f 0 k ++ drop k l) (sym (add-one j))
-
-  pub write-length : (j : ℕ) → j ≤ length l → length (tabulate f 0 j ++ drop j l) ≡ length l
-  write-length j h = length-append (tabulate f 0 j) (drop j l) ∙ omega (arith, tabulate-length f 0 j, length-drop j l)
 
   pub write-all : (j : ℕ) → length l ≤ j → tabulate f 0 j ++ drop j l ≡ tabulate f 0 j
   write-all j h = ap (λ (x : List ℕ). tabulate f 0 j ++ x) (drop-of-length-le l h) ∙ append-nil (tabulate f 0 j)

@@ -5,9 +5,8 @@
 --   factor-positive, no-row-free, after-free == what is left of an index after its rightmost column
 --   shape-valid     == an index below the count has a shape of a reduced matrix
 --   rank-of-shape, shape-of-rank == the two recursions undo one another
---   rank-injective  == shapes with the same index are the same
 -- Assumes nothing.
-use mathlib.Core.Path.{_≡_, refl, ap, ap₂, _∙_, sym}
+use mathlib.Core.Path.{_≡_, refl, ap, ap₂, _∙_}
 use mathlib.Core.Logic.{_⊎_, inl, inr}
 use Prim.Native.Nat.{ℕ, zero, suc, pred, _+_, _*_, _-_, _^_, _/_, _%_, _<_, _≤_}
 use native.Mathlib.Nat.{
@@ -114,6 +113,3 @@ shape-of-rank {q} (valid-pivot {k} {n} {s} v) =
     let b = q ^ suc k * gaussian q n (suc k) in
     let e = extendedRank q s k n in
     shape-pivot q n (suc k) (b + e) (le-add-right b e) ∙ ap pivot (ap (extendedShape q n k) (add-sub-cancel-left b e) ∙ shape-of-rank v)
-
-pub rank-injective : {q k n : ℕ} {s t : Shape} → Valid q k n s → Valid q k n t → extendedRank q s k n ≡ extendedRank q t k n → s ≡ t
-rank-injective {q} {k} {n} v w e = sym (shape-of-rank v) ∙ ap (extendedShape q n k) e ∙ shape-of-rank w

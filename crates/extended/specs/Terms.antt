@@ -8,16 +8,17 @@ use mathlib.Core.Path.{_≡_, ap, _∙_, sym}
 use mathlib.Core.Bool.{true, false}
 use mathlib.Core.List.{List}
 use Prim.Native.Nat.{ℕ, suc, _+_, _*_, _-_, _^_, _<_, _≤_}
-use native.Mathlib.Nat.{mul-le-mul-right, add-sub-of-le}
+use native.Mathlib.Nat.{le-trans, mul-le-mul-right, add-sub-of-le, pow-le-pow-left, pow-le-pow-right}
 use native.Mathlib.Omega.{arith}
 use lib.Arith.{sub-sub-self}
+use lib.Dec.{lit<}
 use lib.ListN.{length}
 use Rattle.basics.specs.Flat.{row-fits}
 use Rattle.basics.specs.Sum.{sum}
 use Rattle.basics.specs.SumLaws.{sum-split}
 use Rattle.matrix.specs.Matrix.{entry, pivotAt, Reduced}
 use Rattle.matrix.specs.Shape.{Shape, topValue}
-use Rattle.matrix.specs.ShapeLaws.{free-value}
+use Rattle.matrix.specs.ShapeLaws.{free-value, topValue-below}
 use Rattle.matrix.specs.Located.{Located, free-no-pivot, pivot-here}
 use Rattle.matrix.specs.Column.{LocatedColumn, at-free, at-pivot, located-column}
 use Rattle.gaussian.specs.Gaussian.{gaussian, tableEntry}
@@ -81,16 +82,18 @@ module _ {q n k : ℕ} {m : List ℕ} (size : 1 < q) (r : Reduced q n k m) where
       last : (i : ℕ) → suc i ≤ n → extendedTerm q n k m (suc i) < gaussian q n k
       last i h = omega (arith, terms-within (suc i) h)
 
--- the first `rows` entries of a column can be read as a number
+-- the first `rows` entries of a column can be read as a number, which is below 8^16
 pub top-asked : {q n k c rows : ℕ} {m : List ℕ} → Accepted q n k → Reduced q n k m → c < n → rows ≤ k
-    → (c < n) × (rows * n ≤ length m) × (rows ≤ 16) × (q ≤ 8) × ((i : ℕ) → i < rows → entry n m i c < q)
-top-asked {q} {n} {k} {c} a r inside few = (
-  inside,
-  omega (arith, r .size, mul-le-mul-right n few),
-  omega (arith, a .dimension, a .narrow),
-  size-small q (a .size) .1,
-  λ i h. r .below (i * n + c) (omega (arith, row-fits i k n (omega arith))),
-)
+    → (0 < q) × (c < n) × (rows * n ≤ length m) × (0 * q ^ rows + topValue q (entry n m) rows c < 2 ^ 64)
+top-asked {q} {n} {k} {c} {rows} {m} a r inside few =
+    let size = size-small q (a .size) in
+    let below : topValue q (entry n m) rows c < q ^ rows
+    = topValue-below q (entry n m) rows c (λ i h. r .below (i * n + c) (omega (arith, row-fits i k n (omega arith))))
+    in
+    let powers : q ^ rows ≤ 8 ^ 16
+    = le-trans (pow-le-pow-left (size .1) rows) (pow-le-pow-right {n = 8} (lit< tt) {i = rows} {j = 16} (omega (arith, a .dimension, a .narrow)))
+    in
+    (omega arith, inside, omega (arith, r .size, mul-le-mul-right n few), omega (arith, below, powers))
 
 -- the coefficient that the term is made with stands in the table
 pub term-entry : {q n k j c rows : ℕ} {m : List ℕ} → Accepted q n k → Term q n k m j c rows → tableEntry q c rows ≡ gaussian q c rows

@@ -1,8 +1,7 @@
 // The extended numbering: a reduced matrix to its index, and back.
 ghost use mathlib.Core.Path.{_≡_};
-ghost use Prim.Native.Nat.{_*_, _^_, _/_, _%_, _≤_, _<_};
+ghost use Prim.Native.Nat.{_*_, _^_, _%_, _≤_, _<_};
 ghost use lib.Count.{ones};
-ghost use lib.Dec.{eqb};
 ghost use lib.ListN.{length};
 ghost use Rattle.matrix.specs.Matrix.{identifying, Reduced};
 ghost use Rattle.gaussian.specs.Gaussian.{gaussian};
@@ -32,7 +31,7 @@ fn column_term(m: &[u8], q: u64, n: usize, k: usize, v: u16, j: usize) -> u64
     if matrix::pivot_at(v, j - 1) {
         return gaussian::free_count(q, c as u64, rows as u64);
     }
-    matrix::top_value(m, q, n, c, rows) * gaussian::coefficient(q, c as u64, rows as u64)
+    matrix::append_digits(0, m, q, n, c, rows) * gaussian::coefficient(q, c as u64, rows as u64)
 }
 
 // The extended index of a reduced matrix, by formula (5); v is the identifying vector.

@@ -1,10 +1,12 @@
--- The packed partition counts: their rule at the places where the code reads.
+-- The packed partition counts: their rule at the places where the code reads, and the bounds of these places.
 use mathlib.Core.Path.{_≡_, refl, ap, ap₂, _∙_, sym}
 use mathlib.Core.List.{List, []}
-use Prim.Native.Nat.{ℕ, suc, _+_, _*_, _-_, _<_, _≤_, _/_, _%_}
+use mathlib.Core.Logic.{_⊎_, inl, inr}
+use Prim.Native.Nat.{ℕ, _+_, _*_, _-_, _<_, _≤_, _/_, _%_}
 use native.Mathlib.Omega.{arith}
-use borrow.Author.Tests.{le-leb}
+use borrow.Author.Tests.{le-leb, lt-leb}
 use lib.ListN.{getD, length}
+use Rattle.basics.specs.Order.{le-or-lt}
 use Rattle.basics.specs.Ragged.{ragged, ragged-at}
 use Rattle.basics.specs.Sum.{sum}
 use Rattle.basics.specs.Test.{every, equal, below}
@@ -12,7 +14,7 @@ use Rattle.basics.specs.Table.{tabulate, table-at}
 use Rattle.basics.specs.TableSize.{tabulate-length}
 use Rattle.ferrers.specs.Ranked.{boxCount}
 use Rattle.ferrers.specs.BoxTable.{boxRow, boxSize, boxTable, level, nextRows, addRows, shifted, level-at}
-use Rattle.ferrers.specs.Packed.{places, readBox}
+use Rattle.ferrers.specs.Packed.{places, shorter, boxBegin, readBox}
 
 -- each row has its length, by one computed test
 rows-sized : (t : ℕ) → t < 289 → length (boxRow t) ≡ boxSize t
@@ -51,6 +53,18 @@ module _ (n k m : ℕ) (narrow : n ≤ 16) (inside : k ≤ n) (room : m ≤ k * 
       ∙ level-at n k m
 
 -- the counts begin below 888, by one computed test
-pub place-below : (t : ℕ) → t < 153 → getD places t 0 < 888
+place-below : (t : ℕ) → t < 153 → getD places t 0 < 888
 unfolding places tabulate sum
 place-below = every (λ t. getD places t 0 < 888) (λ t. below (getD places t 0) 888) 153 .shows tt
+
+pub shorter-below : (n k : ℕ) → n ≤ 16 → k ≤ n → shorter n k ≤ 8
+shorter-below n k narrow inside = cases (le-or-lt (k + k) n)
+  where
+    cases : (k + k ≤ n) ⊎ (n < k + k) → shorter n k ≤ 8
+    cases (inl h) = rw (le-leb _ _ h) (omega arith)
+    cases (inr h) = rw (lt-leb _ _ h) (omega arith)
+
+pub begin-below : (n k : ℕ) → n ≤ 16 → k ≤ n → boxBegin n k < 888
+begin-below n k narrow inside =
+    let short : shorter n k ≤ 8 = shorter-below n k narrow inside in
+    place-below (n * 9 + shorter n k) (omega arith)

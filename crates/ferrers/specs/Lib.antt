@@ -26,4 +26,6 @@ pub mod Parts
 pub mod Placing
 pub mod Reading
 pub mod Searching
+pub mod DiagramVector
+pub mod Inner
 pub mod Unranking

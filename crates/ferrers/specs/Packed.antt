@@ -3,6 +3,7 @@
 --   words           == these halves one after the other, by n and then by the shorter side, four counts of sixteen bits to a number
 --   places          == where the half of a box begins, at n * 9 + a for a box of n rows and columns together, a on its shorter side
 --   shorter n k     == the shorter side of the box of k rows and n - k columns
+--   boxBegin n k    == where its half begins
 --   nearer l m      == m or l - m, whichever is nearer to an end of 0 to l
 --   packed i        == the i-th of all counts
 --   readBox n k m   == p(k, n-k, m) as it is read from the tables
@@ -257,5 +258,8 @@ nearer limit m = pick (leb (m + m) limit) m (limit - m)
 abbrev pub packed : ℕ → ℕ
 packed i = getD words (i / 4) 0 / 2 ^ (i % 4 * 16) % 65536
 
+abbrev pub boxBegin : ℕ → ℕ → ℕ
+boxBegin n k = getD places (n * 9 + shorter n k) 0
+
 abbrev pub readBox : ℕ → ℕ → ℕ → ℕ
-readBox n k m = packed (getD places (n * 9 + shorter n k) 0 + nearer (k * (n - k)) m)
+readBox n k m = packed (boxBegin n k + nearer (k * (n - k)) m)

@@ -4,7 +4,6 @@
 --   partitions-zero        == 1 at m = 0
 --   partitions-beyond      == 0 at m > η·k
 --   partitions-no-row, partitions-no-column == at k = 0 or η = 0, the empty partition alone
---   partitions-positive    == above 0 at m ≤ k·η
 --   box-as-partitions, box-partitions == the count of diagrams in the box for k pivots among n columns is p(k, n-k, m)
 -- Assumes nothing.
 use mathlib.Core.Path.{_≡_, refl, ap₂, _∙_, sym}
@@ -13,7 +12,7 @@ use native.Mathlib.Nat.{le-add-right, add-sub-of-le}
 use native.Mathlib.Omega.{arith}
 use lib.Dec.{eqb}
 use Rattle.basics.specs.Sum.{bit}
-use Rattle.ferrers.specs.Box.{box-no-row, box-next, box-whole, box-zero, box-limit, box-positive}
+use Rattle.ferrers.specs.Box.{box-no-row, box-next, box-whole, box-zero, box-limit}
 use Rattle.ferrers.specs.Less.{less-same}
 use Rattle.ferrers.specs.Partitions.{partitionsLess, partitions, partitionsRow}
 use Rattle.ferrers.specs.Ranked.{boxCount}
@@ -54,6 +53,3 @@ partitions-zero k η = sym (box-as-partitions (k + η) k η 0 refl) ∙ box-zero
 
 pub partitions-beyond : (k η m : ℕ) → η * k < m → partitions k η m ≡ 0
 partitions-beyond k η m h = sym (box-as-partitions (k + η) k η m refl) ∙ box-limit (k + η) k η m refl (omega arith)
-
-pub partitions-positive : (k η m : ℕ) → m ≤ k * η → 0 < partitions k η m
-partitions-positive k η m h = rw (← (box-as-partitions (k + η) k η m refl)) (box-positive (k + η) k η m refl h)

@@ -1,12 +1,13 @@
 -- The tableau of a reduced matrix, read column by column from the right; no part of the meaning.
 --   Reading q n k m c rows tableau == c columns and `rows` rows are left, and the columns passed read as the number `tableau`
 --   reading-start, -end == nothing is read yet, and all is
---   ReadColumn, reading-pivot, reading-free == one more column is read, a pivot's, of which no entry is in the tableau, or a free one
+--   reading-pivot   == a pivot's column is passed, of which no entry is in the tableau
+--   ReadColumn, reading-free == a free column is read
 -- Assumes nothing.
 use mathlib.Core.Path.{_≡_, ap, ap₂, _∙_, sym}
 use mathlib.Core.Bool.{true, false}
 use mathlib.Core.List.{List}
-use Prim.Native.Nat.{ℕ, pred, _+_, _*_, _-_, _^_, _/_, _%_, _<_, _≤_, zero-le}
+use Prim.Native.Nat.{ℕ, pred, _+_, _*_, _-_, _^_, _/_, _%_, _<_, _≤_}
 use native.Mathlib.Nat.{zero-add, zero-mul, pow-zero, one-le-pow, le-mul-of-pos-right, mul-le-mul-right}
 use native.Mathlib.Omega.{arith}
 use lib.Dec.{eqb}
@@ -16,18 +17,14 @@ use Rattle.matrix.specs.Located.{Located, located-start}
 use Rattle.matrix.specs.Matrix.{entry, identifying, Reduced}
 use Rattle.matrix.specs.Peel.{peeled-of}
 use Rattle.matrix.specs.Shape.{Shape, empty, topValue}
-use Rattle.matrix.specs.ShapeLaws.{peeled-valid}
-use Rattle.matrix.specs.TopValue.{top-none}
 use Rattle.matrix.specs.Walk.{walk-pivot, walk-free, walk-end}
 use Rattle.ferrers.specs.Ferrers.{tableauValue}
 use Rattle.ferrers.specs.Ranked.{shapeSize, shapeTableau}
-use Rattle.ferrers.specs.ShapeBounds.{shape-size}
 use Rattle.ferrers.specs.TableauFormula.{tableau-formula}
 
 pub record Reading (q n k : ℕ) (m : List ℕ) (c rows tableau : ℕ) : Type 0 where
   pub shape : Shape
   pub at : Located q n k m rows c shape
-  pub room : shapeSize shape rows ≤ k * (n - k)
   pub whole : tableau * q ^ shapeSize shape rows + shapeTableau q shape rows ≡ tableauValue q n k m
 
 pub reading-start : {q n k : ℕ} {m : List ℕ} → Reduced q n k m → Reading q n k m n k 0
@@ -36,7 +33,6 @@ reading-start {q} {n} {k} r =
     record {
       shape = s;
       at = located-start r p;
-      room = shape-size (peeled-valid p);
       whole = rw (zero-mul, zero-add) (sym (tableau-formula r p));
     }
 
@@ -54,20 +50,16 @@ read-next t p z x y = omega arith
 read-within : (a z y total : ℕ) → 0 < z → a * z + y ≡ total → a ≤ total
 read-within a z y total h e = omega (arith, le-mul-of-pos-right a h)
 
--- the column left of c is read, of which `dots` entries are in the tableau, and `rows` rows are left
-pub record ReadColumn (q n k : ℕ) (m : List ℕ) (c rows dots tableau : ℕ) : Type 0 where
-  pub room : dots ≤ k * (n - k)
-  pub few : dots ≤ k
-  pub long : dots * n ≤ length m
-  pub below : (i : ℕ) → i < dots → entry n m i (c - 1) < q
-  pub fits : tableau * q ^ dots + topValue q (entry n m) dots (c - 1) ≤ tableauValue q n k m
-  pub next : Reading q n k m (c - 1) rows (tableau * q ^ dots + topValue q (entry n m) dots (c - 1))
+-- the column left of c, whose first `rows` entries are in the tableau
+pub record ReadColumn (q n k : ℕ) (m : List ℕ) (c rows tableau : ℕ) : Type 0 where
+  pub long : rows * n ≤ length m
+  pub fits : tableau * q ^ rows + topValue q (entry n m) rows (c - 1) ≤ tableauValue q n k m
+  pub next : Reading q n k m (c - 1) rows (tableau * q ^ rows + topValue q (entry n m) rows (c - 1))
 
-module _ {q n k c rows tableau : ℕ} {m : List ℕ} (v : ℕ) (is : v ≡ identifying n k m) (positive : 0 < q) (some : 0 < c)
-    (w : Reading q n k m c rows tableau) where
-  pivot-next : eqb (v / 2 ^ (n - c) % 2) 1 ≡ true → (1 ≤ rows) × Reading q n k m (c - 1) (rows - 1) tableau
+module _ {q n k c rows tableau : ℕ} {m : List ℕ} (v : ℕ) (is : v ≡ identifying n k m) (some : 0 < c) (w : Reading q n k m c rows tableau) where
+  pub reading-pivot : eqb (v / 2 ^ (n - c) % 2) 1 ≡ true → (1 ≤ rows) × Reading q n k m (c - 1) (rows - 1) tableau
   unfolding shapeSize shapeTableau
-  pivot-next t =
+  reading-pivot t =
       let p = walk-pivot v is (w .at) some t in
       let row : pred rows ≡ rows - 1 = omega arith in
       let size : shapeSize (p .rest) (rows - 1) ≡ shapeSize (w .shape) rows
@@ -80,34 +72,16 @@ module _ {q n k c rows tableau : ℕ} {m : List ℕ} (v : ℕ) (is : v ≡ ident
         record {
           shape = p .rest;
           at = p .next;
-          room = rw size (w .room);
           whole = ap₂ (λ z y. tableau * q ^ z + y) size value ∙ w .whole;
         },
       )
 
-  pub reading-pivot : eqb (v / 2 ^ (n - c) % 2) 1 ≡ true → (1 ≤ rows) × ReadColumn q n k m c (rows - 1) 0 tableau
-  reading-pivot t =
-      let (row, next) = pivot-next t in
-      let same : tableau * q ^ 0 + topValue q (entry n m) 0 (c - 1) ≡ tableau = rw (pow-zero, top-none) (omega arith) in
-      let z : ℕ = shapeSize (w .shape) rows in (
-        row,
-        record {
-          room = zero-le;
-          few = zero-le;
-          long = rw zero-mul zero-le;
-          below = λ i h. absurd (omega arith);
-          fits = rw same (read-within tableau (q ^ z) (shapeTableau q (w .shape) rows) (tableauValue q n k m) (one-le-pow z q positive) (w .whole));
-          next = rw same next;
-        },
-      )
-
-  pub reading-free : eqb (v / 2 ^ (n - c) % 2) 1 ≡ false → ReadColumn q n k m c rows rows tableau
+  pub reading-free : 0 < q → eqb (v / 2 ^ (n - c) % 2) 1 ≡ false → ReadColumn q n k m c rows tableau
   unfolding shapeSize shapeTableau
-  reading-free t =
+  reading-free positive t =
       let p = walk-free v is (w .at) some t in
       let x : ℕ = topValue q (entry n m) rows (c - 1) in
       let z : ℕ = shapeSize (p .rest) rows in
-      let dots : shapeSize (w .shape) rows ≡ rows + z = ap (λ s. shapeSize s rows) (p .split) in
       let all : (tableau * q ^ rows + x) * q ^ z + shapeTableau q (p .rest) rows ≡ tableauValue q n k m
       = sym (read-next tableau (q ^ rows) (q ^ z) x (shapeTableau q (p .rest) rows))
       ∙ ap (λ y. tableau * y + (x * q ^ z + shapeTableau q (p .rest) rows)) (sym (pow-add q rows z))
@@ -115,10 +89,7 @@ module _ {q n k c rows tableau : ℕ} {m : List ℕ} (v : ℕ) (is : v ≡ ident
       ∙ w .whole
       in
       record {
-        room = omega (arith, w .room);
-        few = w .at .rows;
         long = omega (arith, w .at .whole .size, mul-le-mul-right n (w .at .rows));
-        below = p .below;
         fits = read-within (tableau * q ^ rows + x) (q ^ z) (shapeTableau q (p .rest) rows) (tableauValue q n k m) (one-le-pow z q positive) all;
-        next = record { shape = p .rest; at = p .next; room = omega (arith, w .room); whole = all };
+        next = record { shape = p .rest; at = p .next; whole = all };
       }

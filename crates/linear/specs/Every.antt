@@ -4,7 +4,7 @@
 --   all-head, all-tail == of the first element, and of the others
 --   all-at      == the property of the element at a place
 --   all-of      == from the elements at all places
---   all-append, all-left, all-right == of two lists, one after the other, and back
+--   all-append  == of two lists, one after the other
 --   all-take, all-drop == of a list's first elements, and of the others
 -- Assumes nothing.
 use mathlib.Core.List.{List, [], _∷_, _++_}
@@ -50,11 +50,3 @@ module _ {A : Type 0} where
   all-drop zero ps = ps
   all-drop (suc n) none = none
   all-drop (suc n) (more p ps) = all-drop n ps
-
-  pub all-left : {P : A → Type 0} (xs ys : List A) → All P (xs ++ ys) → All P xs
-  all-left [] ys ps = none
-  all-left (x ∷ xs) ys (more p ps) = more p (all-left xs ys ps)
-
-  pub all-right : {P : A → Type 0} (xs ys : List A) → All P (xs ++ ys) → All P ys
-  all-right [] ys ps = ps
-  all-right (x ∷ xs) ys (more p ps) = all-right xs ys ps

@@ -1,5 +1,5 @@
 -- The rows of a flat matrix, one after the other, as a loop walks them; no part of the meaning.
---   lead-part, lead-whole == the search for a lead within a flat matrix finds the lead of the part, or of the whole where that is one row
+--   lead-part    == the search for a lead within a flat matrix finds the lead of the part
 --   rowsFrom n d m i == of the d rows of the matrix m with n columns, those from row i on
 --   rows-all, rows-next, rows-none == from the first row on all rows; from row i on row i, and the rows after it; past the last row none
 --   drop-next    == the bytes after row i
@@ -17,7 +17,7 @@ use Prim.Native.Nat.{ℕ, zero, suc, _+_, _*_, _-_, _<_, _≤_}
 use native.Mathlib.Nat.{le-of-suc-le-suc, not-suc-le-zero, zero-mul, sub-zero, suc-sub-suc}
 use native.Mathlib.Omega.{arith}
 use lib.ListN.{length, getD, take, drop, length-drop}
-use lib.Seq.{length-take-le, take-all, take-at, drop-at, take-add, drop-drop, getD-take, getD-drop}
+use lib.Seq.{length-take-le, take-at, drop-at, take-add, drop-drop, getD-take, getD-drop}
 use Rattle.matrix.specs.Matrix.{lead}
 use Rattle.linear.specs.Span.{All, none, more, Row, rowsOf}
 use Rattle.linear.specs.Eliminate.{join, leadOf}
@@ -39,9 +39,6 @@ module _ (n : ℕ) where
   lead-part m start =
       lead-same (λ j. getD m (start + j) 0) (λ j. getD (take n (drop start m)) j 0) n
       (λ j h. sym (getD-take n (drop start m) j 0 h ∙ getD-drop start m j 0))
-
-  pub lead-whole : (r : List ℕ) → length r ≡ n → lead (λ j. getD r (0 + j) 0) n ≡ leadOf n r
-  lead-whole r e = lead-part r 0 ∙ ap (leadOf n) (take-all n r (omega arith))
 
   pub drop-next : (m : List ℕ) (i : ℕ) → drop n (drop (i * n) m) ≡ drop (suc i * n) m
   drop-next m i = let e : i * n + n ≡ suc i * n = omega arith in drop-drop n (i * n) m ∙ ap (λ x. drop x m) e

@@ -4,7 +4,6 @@
 --   insert-span    == they span what v and rs span
 --   insert-held    == where v is in the span, nothing changes
 --   insert-raised  == where it is not, there is one row more
---   insert-zero    == the zero row changes nothing
 -- Assumes nothing.
 use mathlib.Core.Path.{_≡_, ap, sym, _∙_, subst}
 use mathlib.Core.List.{List, _∷_}
@@ -12,7 +11,7 @@ use mathlib.Core.Logic.{_↔_}
 use Prim.Native.Nat.{ℕ, suc, _<_}
 use native.Mathlib.Decide.{ℕ-discrete}
 use native.Mathlib.Omega.{arith}
-use lib.ListN.{length, replicate}
+use lib.ListN.{length}
 use Rattle.field.specs.Laws.{Laws}
 use Rattle.matrix.specs.Matrix.{Reduced}
 use Rattle.linear.specs.Span.{All, more, Row, InSpan, SameSpan}
@@ -26,7 +25,7 @@ use Rattle.linear.specs.Placed.{Placed, placed-length, placed-echelon, p
 use Rattle.linear.specs.Element.{scalars}
 use Rattle.linear.specs.Entries.{at, Spans, EchelonRows}
 use Rattle.linear.specs.Coefficients.{span-spanned, spanned-span}
-use Rattle.linear.specs.Mixture.{span-zero, zero-row, span-same}
+use Rattle.linear.specs.Mixture.{span-same}
 use Rattle.linear.specs.Flat.{rows-join}
 use Rattle.linear.specs.ReducedRows.{rows-sized, reduced-echelon, echelon-reduced}
 use Rattle.linear.specs.RowLead.{at-before, leadOf-le, lead-none, none-lead}
@@ -142,6 +141,3 @@ module _ (q : ℕ) (laws : Laws q) (n : ℕ) (rs : List (List ℕ)) (h : All (Ro
     insert-raised outside =
         ap length (insertRow-other q n rs v (λ e. outside (residue-zero .1 e)))
         ∙ placed-length _ _ _ _ (place-placed q laws n (monic q n w) (monic-row q laws n w hw) echelon h)
-
-  pub insert-zero : insertRow q n rs (replicate n 0) ≡ rs
-  insert-zero = insert-held (replicate n 0) (zero-row q laws n) (span-zero q laws n rs h)

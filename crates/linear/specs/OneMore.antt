@@ -1,11 +1,10 @@
 -- One more row in a list of rows.
 --   reducedRows-more   == one more row is one row taken in
---   reducedOf-more     == it may as well be added to the rows of the reduced matrix
 --   dimension-held, dimension-raised == it keeps the dimension where it is in the span, and raises it by one where it is not
 --   span-decide        == whether a row is in the span is decided
 --   dimension-tells    == the dimension is kept exactly where the row is in the span
 -- Assumes nothing.
-use mathlib.Core.Path.{_≡_, ap, sym, _∙_}
+use mathlib.Core.Path.{_≡_, ap, _∙_}
 use mathlib.Core.List.{List, [], _∷_, _++_}
 use mathlib.Core.Logic.{_↔_}
 use Prim.Native.Nat.{ℕ, suc}
@@ -13,13 +12,12 @@ use native.Mathlib.Decide.{ℕ-discrete}
 use native.Mathlib.Omega.{arith}
 use lib.ListN.{length}
 use Rattle.field.specs.Laws.{Laws}
-use Rattle.linear.specs.Span.{All, Row, InSpan, SameSpan, rowsOf}
-use Rattle.linear.specs.Eliminate.{join, leadOf, residue, insertRow, insertRows, reducedRows, reducedOf, dimension}
+use Rattle.linear.specs.Span.{All, Row, InSpan, SameSpan}
+use Rattle.linear.specs.Eliminate.{leadOf, residue, insertRow, insertRows, reducedRows, dimension}
 use Rattle.linear.specs.Mixture.{span-row}
 use Rattle.linear.specs.Insert.{residue-zero, insert-held, insert-raised}
 use Rattle.linear.specs.InsertMany.{Kept, insertRows-append}
-use Rattle.linear.specs.ReducedOf.{reducedRows-kept, reducedRows-span, reducedOf-rows}
-use Rattle.linear.specs.SameMatrix.{reducedRows-again}
+use Rattle.linear.specs.ReducedOf.{reducedRows-kept, reducedRows-span}
 
 pub reducedRows-more : (q n : ℕ) (rows : List (List ℕ)) (v : List ℕ) → reducedRows q n (rows ++ (v ∷ [])) ≡ insertRow q n (reducedRows q n rows) v
 unfolding reducedRows insertRows
@@ -28,17 +26,6 @@ reducedRows-more q n rows v = insertRows-append q n [] rows (v ∷ [])
 module _ (q : ℕ) (laws : Laws q) (n : ℕ) (rows : List (List ℕ)) (h : All (Row q n) rows) where
   kept : Kept q n (reducedRows q n rows)
   kept = reducedRows-kept q laws n rows h
-
-  pub reducedOf-more : (v : List ℕ)
-      → reducedOf q n (rowsOf n (dimension q n rows) (reducedOf q n rows) ++ (v ∷ [])) ≡ reducedOf q n (rows ++ (v ∷ []))
-  unfolding reducedOf
-  reducedOf-more v = ap (λ x. join (reducedRows q n (x ++ (v ∷ [])))) (reducedOf-rows q laws n rows h) ∙ ap join step
-    where
-      again : reducedRows q n (reducedRows q n rows) ≡ reducedRows q n rows
-      again = reducedRows-again q laws n (reducedRows q n rows) (kept .rows) (kept .reduced)
-
-      step : reducedRows q n (reducedRows q n rows ++ (v ∷ [])) ≡ reducedRows q n (rows ++ (v ∷ []))
-      step = reducedRows-more q n (reducedRows q n rows) v ∙ ap (λ x. insertRow q n x v) again ∙ sym (reducedRows-more q n rows v)
 
   pub dimension-held : (v : List ℕ) → InSpan q n rows v → dimension q n (rows ++ (v ∷ [])) ≡ dimension q n rows
   unfolding dimension SameSpan

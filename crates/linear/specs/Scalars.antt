@@ -2,7 +2,7 @@
 -- Element makes one of the numbers below q.
 --   Scalars F      == the type F carries the operations and laws of a field
 --   nought-plus, nought-times, unit-times, plus-times == the laws with the sides changed over
---   plus-left-comm, times-left-comm == with the other laws of sums and products these let `simp` sort
+--   plus-left-comm == with the other laws of sums it lets `simp` sort
 --   minus-back     == a multiple taken off and put back changes nothing
 -- Assumes nothing.
 use mathlib.Core.Path.{_≡_, ap, sym, _∙_}
@@ -30,7 +30,7 @@ pub record Scalars (F : Type 0) : Type 0 where
 
 module _ {F : Type 0} (K : Scalars F) where
   open Scalars K using (nought, unit, _⊕_, _⊗_, minus, plus-comm, plus-assoc, plus-nought, plus-minus)
-  open Scalars K using (times-comm, times-assoc, times-unit, times-nought, times-plus)
+  open Scalars K using (times-comm, times-unit, times-nought, times-plus)
 
   infixl 60 _⊕_
   infixl 70 _⊗_
@@ -45,9 +45,6 @@ module _ {F : Type 0} (K : Scalars F) where
 
   pub plus-left-comm : (a b c : F) → a ⊕ (b ⊕ c) ≡ b ⊕ (a ⊕ c)
   plus-left-comm a b c = sym (plus-assoc a b c) ∙ ap (λ x. x ⊕ c) (plus-comm a b) ∙ plus-assoc b a c
-
-  pub times-left-comm : (a b c : F) → a ⊗ (b ⊗ c) ≡ b ⊗ (a ⊗ c)
-  times-left-comm a b c = sym (times-assoc a b c) ∙ ap (λ x. x ⊗ c) (times-comm a b) ∙ times-assoc b a c
 
   pub plus-times : (a b c : F) → (a ⊕ b) ⊗ c ≡ a ⊗ c ⊕ b ⊗ c
   plus-times a b c = simp (times-comm, times-plus)

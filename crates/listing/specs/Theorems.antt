@@ -1,7 +1,6 @@
 -- The chunks of the steps, one after the other, are what the program is to write, and the steps end.
 --   begun-remaining  == at the beginning all of the output is still to be written
 --   chunk-remaining  == a step writes the front of what is still to be written, and leaves the rest
---   step-remaining   == the same of the lent chunk after a step
 --   chunk-empty      == a step writes nothing only where nothing is left, and then it ends
 --   finished         == after 1,026 steps every state is Done
 --   chunks-are-the-output == the chunks of these steps are the output, for every input
@@ -17,8 +16,7 @@ use native.Mathlib.Nat.{sub-zero}
 use native.Mathlib.Omega.{arith}
 use borrow.Author.Tests.{eqb-true}
 use lib.Dec.{eqb}
-use lib.ListN.{length, take, drop, length-append}
-use lib.Seq.{take-append-seam}
+use lib.ListN.{length, take, length-append}
 use Rattle.gaussian.specs.Gaussian.{gaussian}
 use Rattle.settings_line.specs.SettingsLine.{parsed}
 use Rattle.settings_line.specs.Exactly.{parsed-bounded}
@@ -26,7 +24,6 @@ use Rattle.settings_line.specs.declared.Parsed.{Parsed}
 use Rattle.settings_line.specs.declared.Parsed.the-variants.{Settings as settings, Malformed}
 use Rattle.listing.specs.Listing.{listRefusal, linesFrom, header, refusedLine, outputFor, listingOutput}
 use Rattle.listing.specs.ListingLaws.{listable, lines-append, line-nonempty}
-use Rattle.listing.specs.Pieces.{written}
 use Rattle.listing.specs.StepsLaws.{countOf, live-is, end-within, remaining-live, remaining-dead, remaining-from, chunk-live, chunk-dead, next-live, next-dead, past-dead}
 use Rattle.listing.specs.Steps.{live, linesEnd, progressTo, started, remainingLines, remaining, begunFor, begun, linesChunk, chunkOf, linesNext, nextState, stateAfter, chunks}
 use Rattle.listing.specs.declared.Progress.{Progress}
@@ -75,11 +72,6 @@ chunk-remaining (Header x) = refl
 chunk-remaining (Lines p) = lines-remaining p (live p) refl
 chunk-remaining (Refused r) = append-nil (refusedLine r)
 chunk-remaining Done = refl
-
--- what a step leaves at the chunk's front, before what is still to be written afterwards, is what was to be written
-pub step-remaining : (s : State) (start : List ℕ) → take (length (chunkOf s)) (written (chunkOf s) start) ++ remaining (nextState s) ≡ remaining s
-step-remaining s start =
-    ap (λ t. t ++ remaining (nextState s)) (take-append-seam (chunkOf s) (drop (length (chunkOf s)) start)) ∙ chunk-remaining s
 
 some-lines : (q n k i m : ℕ) → 1 ≤ m → length (linesFrom q n k i m) ≡ 0 → ⊥
 unfolding linesFrom

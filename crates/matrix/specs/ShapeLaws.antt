@@ -2,14 +2,11 @@
 --   topValue-same, topValue-below == a column's value is told by its entries, and is below q to their number
 --   peeled-same    == the shape is told by the first k rows and n columns
 --   peeled-valid   == a shape that is peeled off a matrix is one of a reduced matrix
---   peeled-row     == each row has an entry 1
---   peeled-unique  == a matrix has one shape
---   free-rest, -value, -below; pivot-rest, -one, -above, -before == what peeling a column shows
+--   free-rest, -value; pivot-rest, -one, -above, -before == what peeling a column shows
 -- Assumes nothing.
-use mathlib.Core.Path.{_≡_, refl, ap, _∙_, sym}
-use mathlib.Core.Logic.{_⊎_, inl, inr}
+use mathlib.Core.Path.{_≡_, refl, _∙_, sym}
 use Prim.Native.Nat.{ℕ, suc, _^_, _<_}
-use native.Mathlib.Nat.{le-refl, not-suc-le-zero, eq-or-lt-of-le, le-of-suc-le-suc}
+use native.Mathlib.Nat.{le-refl}
 use native.Mathlib.Omega.{arith}
 use Rattle.basics.specs.TableValue.{table-value-below, table-value-same}
 use Rattle.matrix.specs.Shape.{
@@ -51,29 +48,6 @@ peeled-valid peeled-empty = valid-empty
 peeled-valid {q} {A} (peeled-free {k} {n} g p) = valid-free (topValue-below q A k n g) (peeled-valid p)
 peeled-valid (peeled-pivot o above left p) = valid-pivot (peeled-valid p)
 
-pub peeled-row : {q k n : ℕ} {A : ℕ → ℕ → ℕ} {s : Shape} → Peeled q A k n s → (i : ℕ) → i < k → (j : ℕ) × (j < n) × (A i j ≡ 1)
-peeled-row peeled-empty i h = absurd (not-suc-le-zero h)
-peeled-row (peeled-free g p) i h = let (j, b, o) = peeled-row p i h in (j, omega arith, o)
-peeled-row {q} {A} (peeled-pivot {k} {n} o above left p) i h = cases (eq-or-lt-of-le (le-of-suc-le-suc h)) (λ l. peeled-row p i l)
-  where
-    cases : (i ≡ k) ⊎ (i < k) → (i < k → (j : ℕ) × (j < n) × (A i j ≡ 1)) → (j : ℕ) × (j < suc n) × (A i j ≡ 1)
-    cases (inl e) r = (n, le-refl (suc n), rw e o)
-    cases (inr l) r = let (j, b, e) = r l in (j, omega arith, e)
-
--- a free column leaves the last row an entry 1, a pivot's leaves it none
-peeled-not-both : {q k n : ℕ} {A : ℕ → ℕ → ℕ} {s : Shape} → Peeled q A (suc k) n s → ((j : ℕ) → j < n → A k j ≡ 0) → ⊥
-peeled-not-both {k} {A} p left =
-    let (j, b, o) = peeled-row p k (le-refl (suc k)) in
-    let z : A k j ≡ 0 = left j b in
-    omega arith
-
-pub peeled-unique : {q k n : ℕ} {A : ℕ → ℕ → ℕ} {s t : Shape} → Peeled q A k n s → Peeled q A k n t → s ≡ t
-peeled-unique peeled-empty peeled-empty = refl
-peeled-unique {q} {A} (peeled-free {k} {n} g p) (peeled-free h r) = ap (free (topValue q A k n)) (peeled-unique p r)
-peeled-unique (peeled-free g p) (peeled-pivot o above left r) = absurd (peeled-not-both p left)
-peeled-unique (peeled-pivot o above left p) (peeled-free h r) = absurd (peeled-not-both r left)
-peeled-unique (peeled-pivot o above left p) (peeled-pivot o′ above′ left′ r) = ap pivot (peeled-unique p r)
-
 -- what peeling a free column shows
 module _ {q k c : ℕ} {A : ℕ → ℕ → ℕ} {s : Shape} where
   pub free-rest : {x : ℕ} → Peeled q A k (suc c) (free x s) → Peeled q A k c s
@@ -81,9 +55,6 @@ module _ {q k c : ℕ} {A : ℕ → ℕ → ℕ} {s : Shape} where
 
   pub free-value : {x : ℕ} → Peeled q A k (suc c) (free x s) → x ≡ topValue q A k c
   free-value (peeled-free g p) = refl
-
-  pub free-below : {x : ℕ} → Peeled q A k (suc c) (free x s) → (i : ℕ) → i < k → A i c < q
-  free-below (peeled-free g p) = g
 
 -- and a pivot's
 module _ {q k c : ℕ} {A : ℕ → ℕ → ℕ} {s : Shape} where

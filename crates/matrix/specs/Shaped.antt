@@ -1,6 +1,5 @@
 -- Reduced matrices are told by their shapes, and every shape tells one; no part of the meaning.
 --   shape-matrix   == a reduced matrix has the bytes of its shape
---   shape-injective == two reduced matrices with one shape are equal
 --   shape-peeled   == the bytes of a shape have that shape
 --   shape-reduced  == the bytes of a shape are a reduced matrix
 -- Assumes nothing.
@@ -19,10 +18,6 @@ module _ {q n k : ℕ} where
   pub shape-matrix : {m : List ℕ} {s : Shape} → Reduced q n k m → Peeled q (entry n m) k n s → m ≡ flatten k n (cell q s k n)
   shape-matrix {m} {s} r p =
       sym (flatten-entries k n m (r .size)) ∙ flatten-same k n (entry n m) (cell q s k n) (λ i j h b. peeled-entries p i j h b)
-
-  pub shape-injective : {a b : List ℕ} {s : Shape} → Reduced q n k a → Reduced q n k b
-      → Peeled q (entry n a) k n s → Peeled q (entry n b) k n s → a ≡ b
-  shape-injective r t p o = shape-matrix r p ∙ sym (shape-matrix t o)
 
   pub shape-peeled : {s : Shape} → 0 < q → Valid q k n s → Peeled q (entry n (flatten k n (cell q s k n))) k n s
   shape-peeled {s} h v =

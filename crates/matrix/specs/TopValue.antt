@@ -1,19 +1,18 @@
--- The top of a column as a number, row by row; no part of the meaning.
---   top-none, top-next == its value over no rows, and over one row more
---   top-below          == it is below q to the number of rows
---   top-fits           == so it and its next step fit 64 bits, for q at most 8 and at most 16 rows
+-- The top of a column as a number, row by row, and as digits after a number x; no part of the meaning.
+--   top-none, top-next       == its value over no rows, and over one row more
+--   append-none, append-next == x with no digits after it, and with one digit more
+--   append-grows             == with more digits it is not smaller
 -- Assumes nothing.
-use mathlib.Core.Path.{_≡_, refl, ap, _∙_, subst}
+use mathlib.Core.Path.{_≡_, refl, ap, _∙_}
+use mathlib.Core.Logic.{_⊎_, inl, inr}
 use mathlib.Core.List.{[], _∷_}
-use Prim.Native.Nat.{ℕ, suc, _+_, _*_, _^_, _<_, _≤_}
-use native.Mathlib.Nat.{pow-zero, pow-suc, one-mul, lt-of-lt-of-le, pow-le-pow-left, pow-le-pow-right, le-trans}
+use Prim.Native.Nat.{ℕ, zero, suc, _+_, _*_, _^_, _<_, _≤_}
+use native.Mathlib.Nat.{pow-zero, pow-suc, one-mul, le-of-eq, eq-or-lt-of-le, le-mul-of-pos-right}
 use native.Mathlib.Omega.{arith}
-use lib.Dec.{lit<}
-use Rattle.basics.specs.Digits.{value-append, value-below}
+use Rattle.basics.specs.Digits.{value-append}
 use Rattle.basics.specs.Sum.{value}
-use Rattle.basics.specs.Table.{tabulate, table-at}
+use Rattle.basics.specs.Table.{tabulate}
 use Rattle.basics.specs.TableLaws.{tabulate-last}
-use Rattle.basics.specs.TableSize.{tabulate-length}
 use Rattle.matrix.specs.Shape.{topValue}
 
 module _ (q : ℕ) (A : ℕ → ℕ → ℕ) (c : ℕ) where
@@ -30,13 +29,20 @@ module _ (q : ℕ) (A : ℕ → ℕ → ℕ) (c : ℕ) where
       step : (v : ℕ) → v * q ^ 1 + (A i c * q ^ 0 + 0) ≡ v * q + A i c
       step v = let e : q ^ 1 ≡ q = pow-suc q 0 ∙ rw (pow-zero, one-mul) in rw (e, pow-zero q) (omega arith)
 
-  pub top-below : (k : ℕ) → ((i : ℕ) → i < k → A i c < q) → topValue q A k c < q ^ k
-  unfolding topValue
-  top-below k h =
-      subst (λ l. value q (tabulate (λ r. A r c) 0 k) < q ^ l) (tabulate-length (λ r. A r c) 0 k)
-      (value-below q (tabulate (λ r. A r c) 0 k) (λ i l. let g : i < k = rw tabulate-length at l in rw (table-at (λ r. A r c) k i g) (h i g)))
+  pub append-none : (x : ℕ) → x * q ^ 0 + topValue q A 0 c ≡ x
+  append-none x = rw (pow-zero, top-none) (omega arith)
 
-  pub top-fits : (i : ℕ) → i < 16 → q ≤ 8 → ((r : ℕ) → r < suc i → A r c < q) → topValue q A i c * q + A i c < 2 ^ 48
-  top-fits i h small below =
-      subst (λ x. x < 2 ^ 48) (top-next i)
-      (lt-of-lt-of-le (top-below (suc i) below) (le-trans (pow-le-pow-left small (suc i)) (pow-le-pow-right {n = 8} (lit< tt) {i = suc i} {j = 16} h)))
+  pub append-next : (x i : ℕ) → x * q ^ suc i + topValue q A (suc i) c ≡ (x * q ^ i + topValue q A i c) * q + A i c
+  append-next x i = rw (pow-suc, top-next i) (moved (q ^ i) (topValue q A i c))
+    where
+      moved : (p t : ℕ) → x * (p * q) + (t * q + A i c) ≡ (x * p + t) * q + A i c
+      moved p t = omega arith
+
+  pub append-grows : 0 < q → (x i j : ℕ) → i ≤ j → x * q ^ i + topValue q A i c ≤ x * q ^ j + topValue q A j c
+  append-grows h x i zero l = let e : i ≡ 0 = omega arith in rw e (omega arith)
+  append-grows h x i (suc j) l = cases (eq-or-lt-of-le l) (append-grows h x i j)
+    where
+      cases : (i ≡ suc j) ⊎ (i < suc j) → (i ≤ j → x * q ^ i + topValue q A i c ≤ x * q ^ j + topValue q A j c)
+          → x * q ^ i + topValue q A i c ≤ x * q ^ suc j + topValue q A (suc j) c
+      cases (inl e) before = le-of-eq (ap (λ r. x * q ^ r + topValue q A r c) e)
+      cases (inr g) before = omega (arith, before (omega arith), append-next x j, le-mul-of-pos-right (x * q ^ j + topValue q A j c) h)

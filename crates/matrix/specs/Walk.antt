@@ -34,7 +34,6 @@ pub record PivotColumn (q N K : ℕ) (m : List ℕ) (rows c : ℕ) (s : Shape) :
 pub record FreeColumn (q N K : ℕ) (m : List ℕ) (rows c : ℕ) (s : Shape) : Type 0 where
   pub rest : Shape
   pub split : s ≡ free (topValue q (entry N m) rows (c - 1)) rest
-  pub below : (i : ℕ) → i < rows → entry N m i (c - 1) < q
   pub next : Located q N K m rows (c - 1) rest
 
 module _ {q N K : ℕ} {m : List ℕ} (v : ℕ) (e : v ≡ identifying N K m) where
@@ -57,7 +56,7 @@ module _ {q N K : ℕ} {m : List ℕ} (v : ℕ) (e : v ≡ identifying N K m) wh
   found-free peeled-empty l h t = absurd (omega arith)
   found-free (peeled-free {k} {n} {s} g p) l h t =
       let column : suc n - 1 ≡ n = omega arith in
-      record { rest = s; split = rw column; below = rw column g; next = rw column (located-free l) }
+      record { rest = s; split = rw column; next = rw column (located-free l) }
   found-free (peeled-pivot o above left p) l h t = let z : _≡_ {A = ℕ} 0 1 = cc (pivot-here l, bit-at false l t) in absurd (omega arith)
 
   pub walk-pivot : {rows c : ℕ} {s : Shape} → Located q N K m rows c s → 0 < c → eqb (v / 2 ^ (N - c) % 2) 1 ≡ true

@@ -1,11 +1,10 @@
 // Reduced matrices as bytes, row by row from the top. The functions ask that the matrix has its k×n bytes; the calls above test it.
 ghost use mathlib.Core.Path.{_≡_};
 ghost use mathlib.Core.Bool.{true};
-ghost use mathlib.Core.List.{List};
 ghost use Prim.Native.Nat.{ℕ, suc, _+_, _*_, _^_, _/_, _%_, _≤_, _<_};
 ghost use lib.Dec.{eqb};
 ghost use lib.ListN.{length, getD, replicate};
-ghost use Rattle.matrix.specs.Matrix.{entry, lead as leadOf, entriesBelow, isReduced, Reduced, identifying as vectorOf};
+ghost use Rattle.matrix.specs.Matrix.{entry, lead as leadOf, pivot, entriesBelow, isReduced, Reduced, identifying as vectorOf};
 ghost use Rattle.matrix.specs.Shape.{topValue};
 ghost use Rattle.matrix.specs.Written.{digitAt, unitAt, Blank, Written};
 ghost use Rattle.matrix.specs.Decided.{pivotOf};
@@ -157,10 +156,12 @@ fn other_digits(q: u64, x: u64) -> u64
     }
 }
 
-// Writes the base-q digits of x into the first `rows` entries of column c, the last digit lowest. The other entries are 0 already.
-pub fn write_digits(m: &mut [u8], q: u64, n: usize, k: usize, c: usize, rows: usize, x: u64)
+// Writes the base-q digits of x into the first `rows` entries of column c, the last digit lowest, and answers the digits that are left. The
+// other entries are 0 already.
+pub fn write_digits(m: &mut [u8], q: u64, n: usize, k: usize, c: usize, rows: usize, x: u64) -> u64
     requires { ⌜ (0 < q) × (q ≤ 256) × (c < n) × (rows ≤ k) × (k * n ≤ length (now m)) × Blank n k c rows (now m) ⌝ }
     ensures { λ _. ⌜ Written n k c (digitAt q rows x) (now (m .entry)) (now (m .exit)) ⌝ }
+    ensures { λ r. ⌜ r ≡ x / q ^ rows ⌝ }
 {
     let mut rest = x;
     let mut i = rows;
@@ -170,6 +171,7 @@ pub fn write_digits(m: &mut [u8], q: u64, n: usize, k: usize, c: usize, rows: us
         rest = other_digits(q, rest);
         i = a;
     }
+    rest
 }
 
 // Writes a pivot's 1 into entry `row` of column c, whose entries are 0.
@@ -191,18 +193,18 @@ pub fn clear(m: &mut [u8])
     }
 }
 
-// The first `rows` entries of column c as a base-q number, top row most significant.
-pub fn top_value(m: &[u8], q: u64, n: usize, c: usize, rows: usize) -> u64
-    requires { ⌜ (c < n) × (rows * n ≤ length (now m)) × (rows ≤ 16) × (q ≤ 8) × ((i : ℕ) → i < rows → entry n (now m) i c < q) ⌝ }
-    ensures { λ r. ⌜ r ≡ topValue q (entry n (now (m .entry))) rows c ⌝ }
+// x, with the first `rows` entries of column c as base-q digits after it, top row first.
+pub fn append_digits(x: u64, m: &[u8], q: u64, n: usize, c: usize, rows: usize) -> u64
+    requires { ⌜ (0 < q) × (c < n) × (rows * n ≤ length (now m)) × (x * q ^ rows + topValue q (entry n (now m)) rows c < 2 ^ 64) ⌝ }
+    ensures { λ r. ⌜ r ≡ x * q ^ rows + topValue q (entry n (now (m .entry))) rows c ⌝ }
 {
-    let mut x: u64 = 0;
+    let mut value = x;
     let mut i = 0;
     while i < rows {
-        x = x * q + m[i * n + c] as u64;
+        value = value * q + m[i * n + c] as u64;
         i += 1;
     }
-    x
+    value
 }
 
 // The identifying vector of a reduced matrix: column j from the right has the value 2^(j-1).
@@ -217,6 +219,21 @@ pub fn identifying(m: &[u8], n: usize, k: usize) -> u16
         let j = n - 1 - lead(m, r * n, n);
         v += 1u16 << j;
         i = r;
+    }
+    v
+}
+
+// The identifying vector of a reduced matrix whose pivots, from the top row down, are in the given columns.
+pub fn vector_of(m: &[u8], pivots: &[u8], n: usize, k: usize) -> u16
+    requires { ⌜ (n ≤ 16) × ((q : ℕ) × Reduced q n k (now m)) × (k ≤ length (now pivots)) × ((i : ℕ) → i < k → getD (now pivots) i 0 ≡ pivot n (now m) i) ⌝ }
+    ensures { λ r. ⌜ r ≡ vectorOf n k (now (m .entry)) ⌝ }
+{
+    let mut v: u16 = 0;
+    let mut i = k;
+    while i > 0 {
+        i -= 1;
+        let j = n - 1 - pivots[i] as usize;
+        v += 1u16 << j;
     }
     v
 }

@@ -9,10 +9,8 @@
 use mathlib.Core.Path.{_≡_}
 use mathlib.Core.Bool.{true, false}
 use mathlib.Core.List.{List, [], _∷_}
-use Prim.Native.Nat.{ℕ, _<_}
-use native.Mathlib.Nat.{le-of-lt}
-use native.Mathlib.Omega.{arith}
-use borrow.Author.Tests.{eq-eqb, ne-eqb, lt-ltb, le-ltb, eqb-true}
+use Prim.Native.Nat.{ℕ}
+use borrow.Author.Tests.{eq-eqb, ne-eqb, eqb-true}
 use lib.Dec.{T, eqb}
 use lib.ListN.{length}
 use Rattle.basics.specs.Choice.{holds}
@@ -20,8 +18,6 @@ use Rattle.refusal.specs.Refusal.{receiver as receiverRefusal, length as length
 use Rattle.refusal.specs.RefusalLaws.{test-zero}
 use Rattle.gaussian.specs.Settings.{settingsRefusal}
 use Rattle.matrix.specs.Matrix.{entriesBelow}
-use Rattle.extended.specs.Extended.{extendedIndex}
-use Rattle.ferrers.specs.Ferrers.{ferrersIndex}
 use Rattle.pandrwyg.specs.Numbering.{isNumbering}
 use Rattle.pandrwyg.specs.Reception.{spaceAnswer}
 use Rattle.pandrwyg.specs.Receiver.{empty, startOf, used, wellFormed, takeRefusal, takenIn, takeOf, closeRefusal, closeOf}

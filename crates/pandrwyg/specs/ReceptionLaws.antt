@@ -1,7 +1,7 @@
 -- Which refusal Reduce and Receive come to, test by test, and what they may rely on where there is none; no part of the meaning.
 --   reduce-size, -row, -count, -input, -output, -entry, -none == 1; 2; 13; 4; 4; 6; none
 --   receive-choice, -count, -input, -answer, -entry, -none    == 1, 2, 3, 10; 13; 4; 4; 6; none; for Receive with a lent answer
---   exported-nine, received-nine == with nine bytes it refuses and answers as Receive alone
+--   received-nine == with nine bytes it answers as Receive alone
 --   reduce-refused, reduce-done, exported-refused, exported-done == what Reduce and Receive answer and leave
 --   ReduceAccepted, ReceiveAccepted == what holds where none refuses
 -- Assumes nothing.
@@ -126,10 +126,6 @@ module _ (q n k t r : ℕ) (input : List ℕ) (size : ℕ) where
   pub exported-done : exportedRefusal q n k t r input size ≡ 0 → reducedAnswer q n k t r input ≡ exportedOf q n k t r input size
   unfolding exportedOf
   exported-done e = rw (eq-eqb (exportedRefusal q n k t r input size) 0 e)
-
-pub exported-nine : (q n k t r : ℕ) (input : List ℕ) → exportedRefusal q n k t r input 9 ≡ receiveRefusal q n k t r input
-unfolding exportedRefusal receiveRefusal
-exported-nine q n k t r input = refl
 
 pub received-nine : (q n k t r : ℕ) (input : List ℕ) → exportedOf q n k t r input 9 ≡ receiveOf q n k t r input
 unfolding exportedOf receiveOf exportedRefusal receiveRefusal

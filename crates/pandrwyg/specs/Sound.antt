@@ -1,6 +1,7 @@
 -- What a receiver that passes the test obeys; no part of the meaning.
 --   Sound r         == the settings are accepted, the dimension is at most n, the entries used are a reduced matrix, and the others are 0
 --   sound           == a receiver that passes the test, and has 256 entries as every real one has, is Sound
+--   used-reduced    == the entries that a Sound receiver uses pass the test of a reduced matrix
 --   well-formed     == a Sound receiver passes the test
 -- Assumes nothing.
 use mathlib.Core.Path.{_≡_, ap₂}
@@ -64,18 +65,19 @@ module _ (r : Receiver) where
             (and-right (isReduced (r .n) (r .dimension) (used r)) _ t₃) i b) (le-ltb i (r .dimension * r .n) g));
       }
 
+  used-below : Sound r → entriesBelow (r .q) (used r) ≡ true
+  used-below s = entries-below-true (r .q) (used r) (λ i h. s .reduced .below i (omega (arith, s .reduced .size)))
+
+  pub used-reduced : Sound r → isReduced (r .n) (r .dimension) (used r) ≡ true
+  used-reduced s =
+      is-true (isReduced (r .n) (r .dimension) (used r))
+      (reduced-exactly (r .q) (r .n) (r .dimension) (used r) (s .reduced .size) (holds (entriesBelow (r .q) (used r)) (used-below s)) .1 (s .reduced))
+
   pub well-formed : Sound r → wellFormed r ≡ true
   unfolding wellFormed restZero
   well-formed s =
-      ap₂ _&&_ (eq-eqb _ 0 (s .settings))
-      (ap₂ _&&_ (le-leb _ _ (s .fits)) (ap₂ _&&_ below (ap₂ _&&_ (is-true (isReduced (r .n) (r .dimension) (used r)) shape) others)))
+      ap₂ _&&_ (eq-eqb _ 0 (s .settings)) (ap₂ _&&_ (le-leb _ _ (s .fits)) (ap₂ _&&_ (used-below s) (ap₂ _&&_ (used-reduced s) others)))
     where
-      below : entriesBelow (r .q) (used r) ≡ true
-      below = entries-below-true (r .q) (used r) (λ i h. s .reduced .below i (omega (arith, s .reduced .size)))
-
-      shape : T (isReduced (r .n) (r .dimension) (used r))
-      shape = reduced-exactly (r .q) (r .n) (r .dimension) (used r) (s .reduced .size) (holds (entriesBelow (r .q) (used r)) below) .1 (s .reduced)
-
       others : restZero (r .dimension * r .n) (r .entries) ≡ true
       others =
           allBelow-true 256 (λ i. ltb i (r .dimension * r .n) || eqb (getD (r .entries) i 0) 0)

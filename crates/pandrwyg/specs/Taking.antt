@@ -1,21 +1,18 @@
 -- A row taken into the bytes of a receiver, as the code does it; no part of the meaning.
---   copied-none, -more, -all == the row copied to the front of zeros, one entry after the other
---   copy-size, copy-front    == the copy, and the row at its front
 --   lent-fits, lent-size     == the n·n entries that are lent
---   lent-kept                == they hold the receiver's rows
+--   lent-kept, lent-held     == they hold the receiver's rows, with zeros after them
 --   taken-raised, taken-held == what the row reduction leaves in them is the receiver with the row taken in, by the answer
 -- Assumes nothing.
 use mathlib.Core.Path.{_≡_, ap, ap₂, sym, _∙_, subst}
 use mathlib.Core.List.{List, [], _∷_, _++_, append-assoc}
-use Prim.Native.Nat.{ℕ, suc, _+_, _*_, _-_, _≤_, _<_}
-use native.Mathlib.Nat.{mul-le-mul-right, zero-add}
+use Prim.Native.Nat.{ℕ, _+_, _*_, _-_, _≤_, _<_}
+use native.Mathlib.Nat.{mul-le-mul-right}
 use native.Mathlib.Omega.{arith}
 use borrow.Author.Tests.{lt-ltb, le-ltb}
 use lib.Dec.{ltb}
-use lib.ListN.{length, getD, take, drop, set, replicate, length-append, length-replicate, take-append-drop}
-use lib.Seq.{length-take-le, take-all, take-at, take-take, drop-append-le, paste, paste-zero, paste-suc}
+use lib.ListN.{length, take, drop, replicate, length-replicate, replicate-append-replicate, take-append-drop}
+use lib.Seq.{length-take-le, take-at, take-take, take-append-add}
 use Rattle.basics.specs.Choice.{pick}
-use Rattle.basics.specs.Replicate.{drop-replicate}
 use Rattle.field.specs.Laws.{Laws}
 use Rattle.linear.specs.Span.{Row, rowsOf}
 use Rattle.linear.specs.Eliminate.{join, insertRow, reducedRows, reducedOf, dimension}
@@ -27,38 +24,12 @@ use Rattle.linear.specs.ReducedOf.{reduced-le}
 use Rattle.linear.specs.ReducedRows.{rows-sized}
 use Rattle.linear.specs.SameMatrix.{reducedRows-again}
 use Rattle.reduction.specs.Padded.{padded}
-use Rattle.reduction.specs.Inserting.{insert-grows}
 use Rattle.pandrwyg.specs.Receiver.{heldRows, holding, takenIn}
 use Rattle.pandrwyg.specs.Sound.{Sound, used-fit}
 use Rattle.pandrwyg.specs.Held.{settings-laws, held-kept, held-join, held-length, rest-zero}
 use Rattle.pandrwyg.specs.declared.receiver.Receiver.{Receiver}
 use Rattle.pandrwyg.specs.declared.receiver.Taken.{Taken}
 use Rattle.pandrwyg.specs.declared.receiver.TakeAnswer.the-variants.{Raised, Held}
-
--- the first j entries of the row at the front of zeros
-module _ (size : ℕ) (row : List ℕ) where
-  pub copied-none : replicate size 0 ≡ paste (replicate size 0) 0 row 0
-  copied-none = paste-zero (replicate size 0) 0 row
-
-  pub copied-more : (j : ℕ) → j < size → j < length row
-      → set (paste (replicate size 0) 0 row j) j (getD row j 0) ≡ paste (replicate size 0) 0 row (suc j)
-  copied-more j h g =
-      ap (λ x. set (paste (replicate size 0) 0 row j) x (getD row j 0)) (sym (zero-add j))
-      ∙ paste-suc (replicate size 0) 0 row j 0 (omega (arith, length-replicate {A = ℕ} size 0)) g
-
-  pub copied-all : (j : ℕ) → j ≡ length row → paste (replicate size 0) 0 row j ≡ padded size row
-  unfolding padded
-  copied-all j e =
-      ap₂ (λ (x y : List ℕ). x ++ y) (take-all j row (omega arith))
-      (drop-replicate (0 + j) size 0 ∙ ap (λ x. replicate (size - x) 0) (zero-add j ∙ e))
-
-  pub copy-size : length row ≤ size → length (padded size row) ≡ size
-  unfolding padded
-  copy-size h = length-append row (replicate (size - length row) 0) ∙ omega (arith, length-replicate {A = ℕ} (size - length row) 0)
-
-  pub copy-front : (n : ℕ) → length row ≡ n → take n (padded size row) ≡ row
-  unfolding padded
-  copy-front n e = take-at row (replicate (size - length row) 0) n e
 
 module _ (r : Receiver) (size : length (r .entries) ≡ 256) (s : Sound r) where
   -- the entries that are lent to the reduction
@@ -89,6 +60,23 @@ module _ (r : Receiver) (size : length (r .entries) ≡ 256) (s : Sound r) where
   pub lent-kept : Kept (r .q) (r .n) (rowsOf (r .n) (r .dimension) (take (r .n * r .n) (r .entries)))
   lent-kept = subst (Kept (r .q) (r .n)) (sym lent-rows) (held-kept r size s)
 
+  pub lent-held : take (r .n * r .n) (r .entries) ≡ padded (r .n * r .n) (join (rowsOf (r .n) (r .dimension) (take (r .n * r .n) (r .entries))))
+  unfolding padded
+  lent-held =
+      let used : ℕ = r .dimension * r .n in
+      let more : used + (r .n * r .n - used) ≡ r .n * r .n = omega (arith, used-lent) in
+      let left : r .n * r .n - used + (256 - r .n * r .n) ≡ 256 - used = omega (arith, used-lent, lent-fits) in
+      let held : length (join (heldRows r)) ≡ used = ap length (held-join r size s) ∙ length-take-le used (r .entries) (omega (arith, used-lent, lent-fits)) in
+      ap₂ (λ (x : ℕ) (y : List ℕ). take x y) (sym more ∙ ap (λ x. x + (r .n * r .n - used)) (sym held))
+      (sym (take-append-drop used (r .entries)) ∙ ap₂ (λ (x y : List ℕ). x ++ y) (sym (held-join r size s)) (rest-zero r size s used (omega arith)))
+      ∙ take-append-add (join (heldRows r)) (replicate (256 - used) 0) (r .n * r .n - used)
+      ∙ ap (λ (x : List ℕ). join (heldRows r) ++ x)
+      (ap (λ x. take (r .n * r .n - used) (replicate x 0)) (sym left)
+      ∙ ap (take (r .n * r .n - used)) (sym (replicate-append-replicate (r .n * r .n - used) (256 - r .n * r .n) 0))
+      ∙ take-at (replicate (r .n * r .n - used) 0) (replicate (256 - r .n * r .n) 0) (r .n * r .n - used) (length-replicate {A = ℕ} (r .n * r .n - used) 0))
+      ∙ ap (λ x. join (heldRows r) ++ replicate (r .n * r .n - x) 0) (sym held)
+      ∙ ap (λ x. padded (r .n * r .n) (join x)) (sym lent-rows)
+
   module _ (row : List ℕ) (hr : Row (r .q) (r .n) row) where
     -- the rows that come out
     abbrev out : List (List ℕ)
@@ -109,19 +97,8 @@ module _ (r : Receiver) (size : length (r .entries) ≡ 256) (s : Sound r) where
     out-fits : length out * r .n ≤ r .n * r .n
     out-fits = mul-le-mul-right (r .n) (reduced-le (r .q) (r .n) (length out) (join out) (out-kept .reduced))
 
-    out-grows : r .dimension * r .n ≤ length out * r .n
-    out-grows = mul-le-mul-right (r .n) (omega (arith, insert-grows (r .q) (r .n) (heldRows r) row, held-length r size s))
-
-    -- past the rows that come out there are zeros
-    zeros : drop (length out * r .n) lent ++ drop (r .n * r .n) (r .entries) ≡ replicate (256 - length (join out)) 0
-    zeros =
-        sym (drop-append-le (length out * r .n) lent (drop (r .n * r .n) (r .entries)) (omega (arith, lent-size, out-fits)))
-        ∙ ap (drop (length out * r .n)) (take-append-drop (r .n * r .n) (r .entries))
-        ∙ rest-zero r size s (length out * r .n) out-grows
-        ∙ ap (λ x. replicate (256 - x) 0) (sym out-size)
-
     module _ (d : ℕ) (after : List ℕ) (count : d ≡ length (insertRow (r .q) (r .n) (rowsOf (r .n) (r .dimension) lent) row))
-        (bytes : after ≡ join (insertRow (r .q) (r .n) (rowsOf (r .n) (r .dimension) lent) row) ++ drop (d * r .n) lent) where
+        (bytes : after ≡ padded (r .n * r .n) (join (insertRow (r .q) (r .n) (rowsOf (r .n) (r .dimension) lent) row))) where
       -- the receiver that comes out
       abbrev left : Receiver
       left = record { entries = after ++ drop (r .n * r .n) (r .entries); q = r .q; n = r .n; k = r .k; dimension = d }
@@ -135,10 +112,11 @@ module _ (r : Receiver) (size : length (r .entries) ≡ 256) (s : Sound r) where
       entries : after ++ drop (r .n * r .n) (r .entries) ≡ padded 256 (join (reducedRows (r .q) (r .n) (heldRows r ++ (row ∷ []))))
       unfolding padded
       entries =
-          ap (λ (x : List ℕ). x ++ drop (r .n * r .n) (r .entries))
-          (bytes ∙ ap₂ (λ x y. join (insertRow (r .q) (r .n) x row) ++ drop (y * r .n) lent) lent-rows here)
-          ∙ append-assoc (join out) (drop (length out * r .n) lent) (drop (r .n * r .n) (r .entries))
-          ∙ ap (λ (x : List ℕ). join out ++ x) zeros
+          let more : r .n * r .n - length (join out) + (256 - r .n * r .n) ≡ 256 - length (join out) = omega (arith, out-size, out-fits, lent-fits) in
+          ap₂ (λ (x y : List ℕ). x ++ y) (bytes ∙ ap (λ x. padded (r .n * r .n) (join (insertRow (r .q) (r .n) x row))) lent-rows)
+          (rest-zero r size s (r .n * r .n) used-lent)
+          ∙ append-assoc (join out) (replicate (r .n * r .n - length (join out)) 0) (replicate (256 - r .n * r .n) 0)
+          ∙ ap (λ (x : List ℕ). join out ++ x) (replicate-append-replicate (r .n * r .n - length (join out)) (256 - r .n * r .n) 0 ∙ ap (λ x. replicate x 0) more)
           ∙ ap (λ x. padded 256 (join x)) (sym new)
 
       taken-in : _≡_ {A = Taken} (record { receiver = left; answer = pick (ltb (r .dimension) d) Raised Held }) (takenIn r row)

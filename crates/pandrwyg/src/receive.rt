@@ -44,16 +44,18 @@ fn reduced_answer(q: u64, n: u64, k: u64, t: u64, row_count: u64, rows: &[u8]) -
 {
     let width = n as usize;
     let mut matrix = [0u8; 256];
-    let mut row = [0u8; 16];
+    let mut pivots = [0u8; 16];
     let d = reduction::reduce(
         q,
         width,
         row_count as usize,
         rows,
         &mut matrix[..width * width],
-        &mut row[..width],
+        &mut pivots,
     );
-    space::space_answer(q, n, k, t, d as u64, &matrix[..d * width])
+    let size = d * width;
+    let vector = matrix::vector_of(&matrix[..size], &pivots, width, d);
+    space::space_answer(q, n, k, t, d as u64, &matrix[..size], vector)
 }
 
 // Receive: the index of the space that the rows span, in the numbering t. Refuses 1, 2, 3, 10, 13, 4 (not exactly row_count×n bytes), 6;

@@ -2,7 +2,6 @@
 ghost use mathlib.Core.Path.{_≡_};
 ghost use Prim.Native.Nat.{_≤_};
 ghost use lib.ListN.{length};
-ghost use Rattle.reduction.specs.Padded.{padded};
 ghost use Rattle.pandrwyg.specs.Receiver.{startOf, restZero, wellFormed, takeRefusal, takenIn, takeOf, lentReceiver, lentAnswer, closeRefusal, closeOf};
 ghost use Rattle.pandrwyg.specs.ReceiverLaws.{TakeAccepted};
 use crate::answer::Received;
@@ -81,20 +80,6 @@ fn rest_zero(entries: [u8; 256], size: usize) -> bool
     true
 }
 
-// The row, with zeros after it.
-fn row_copy(row: &[u8]) -> [u8; 16]
-    requires { ⌜ length (now row) ≤ 16 ⌝ }
-    ensures { λ r. ⌜ r ≡ padded 16 (now (row .entry)) ⌝ }
-{
-    let mut copy = [0u8; 16];
-    let mut j = 0;
-    while j < row.len() {
-        copy[j] = row[j];
-        j += 1;
-    }
-    copy
-}
-
 impl Receiver {
     // Whether the receiver is one that Start and Take can leave after an accepted Start. The dimension is known to be at most n, and n at
     // most 16, before the two are multiplied.
@@ -156,13 +141,15 @@ impl Receiver {
         let size = width * width;
         let before = self.dimension as usize;
         let mut entries = self.entries;
-        let mut scratch = row_copy(row);
+        let mut pivots = [0u8; 16];
+        reduction::find_leads(width, before, &entries[..size], &mut pivots);
         let dimension = reduction::insert(
             self.q,
             width,
             before,
+            row,
             &mut entries[..size],
-            &mut scratch[..width],
+            &mut pivots,
         );
         let receiver = Receiver {
             entries,
@@ -209,7 +196,20 @@ impl Receiver {
         }
         let entries = self.entries;
         let size = (self.dimension * self.n) as usize;
-        space::space_answer(self.q, self.n, self.k, t, self.dimension, &entries[..size])
+        let found = matrix::reduced_vector(
+            &entries[..size],
+            self.n as usize,
+            self.dimension as usize,
+        );
+        space::space_answer(
+            self.q,
+            self.n,
+            self.k,
+            t,
+            self.dimension,
+            &entries[..size],
+            found.vector,
+        )
     }
 }
 

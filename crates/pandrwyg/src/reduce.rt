@@ -41,15 +41,9 @@ pub fn reduce(q: u64, n: u64, row_count: u64, rows: &[u8], output: &mut [u8]) ->
         return Reduction::Refused(refusal);
     }
     let width = n as usize;
-    let mut row = [0u8; 16];
-    let dimension = reduction::reduce(
-        q,
-        width,
-        row_count as usize,
-        rows,
-        output,
-        &mut row[..width],
-    );
+    let mut pivots = [0u8; 16];
+    matrix::clear(output);
+    let dimension = reduction::reduce(q, width, row_count as usize, rows, output, &mut pivots);
     Reduction::Done(Space {
         dimension: dimension as u64,
     })

@@ -1,23 +1,24 @@
 -- The rows above w cleared one after the other; no part of the meaning.
 --   Clearing        == the first i rows are cleared, and all of them are above w
 --   clearing-start  == before the first row
+--   clearing-rest   == the rows from row i on are as they were
 --   clearing-more   == one row more
 --   clearing-stop, clearing-end == where the next row is not above w, or there is none, the work is done
 -- Assumes nothing.
-use mathlib.Core.Path.{_≡_, refl, ap, ap₂, sym, _∙_}
+use mathlib.Core.Path.{_≡_, refl, ap, ap₂, sym, _∙_, subst}
 use mathlib.Core.List.{List, [], _∷_, _++_, append-assoc, append-nil}
-use Prim.Native.Nat.{ℕ, suc, _+_, _*_, _<_, _≤_}
+use Prim.Native.Nat.{ℕ, suc, _+_, _*_, _-_, _<_, _≤_}
 use native.Mathlib.Nat.{zero-mul, zero-add}
 use native.Mathlib.Omega.{arith}
 use borrow.Author.Tests.{lt-ltb, le-ltb}
 use lib.ListN.{length, take, drop, length-append, length-drop, take-append-drop}
-use lib.Seq.{length-take-le, take-at, drop-at}
+use lib.Seq.{length-take-le, take-at, drop-at, drop-drop}
 use Rattle.basics.specs.Choice.{pick}
 use Rattle.basics.specs.Flat.{row-fits}
 use Rattle.linear.specs.Span.{rowsOf}
 use Rattle.linear.specs.Eliminate.{leadOf, eliminate, join}
 use Rattle.linear.specs.FlatRows.{rowsFrom, rows-all, rows-next, rows-none, drop-next}
-use Rattle.reduction.specs.Steps.{above, cleared}
+use Rattle.reduction.specs.Steps.{part, put, above, cleared}
 use Rattle.reduction.specs.Placing.{eliminate-length}
 
 module _ (q n : ℕ) (w : List ℕ) where
@@ -71,36 +72,45 @@ module _ (q n d : ℕ) (m w : List ℕ) where
         let none : rowsFrom n d m i ≡ [] = rows-none n m d i e in
         stopped (ap (λ x. join (cleared q n x w)) none) (ap (λ x. above n x w) none)
 
-    module _ (h : i < d) where
-      next : rowsFrom n d m i ≡ take n (drop (i * n) now) ∷ rowsFrom n d m (suc i)
-      next = rows-next n m d i h ∙ ap (λ x. take n x ∷ rowsFrom n d m (suc i)) (sym (c .same))
+    -- what lies at row i or later is as it was
+    pub clearing-rest : (k at : ℕ) → i * n ≤ at → part k at now ≡ part k at m
+    clearing-rest k at l =
+        let e : i * n + (at - i * n) ≡ at = omega arith in
+        ap (λ x. part k x now) (sym e) ∙ ap (take k) (sym (drop-drop (at - i * n) (i * n) now)) ∙ ap (λ x. take k (drop (at - i * n) x)) (c .same)
+        ∙ ap (take k) (drop-drop (at - i * n) (i * n) m) ∙ ap (λ x. part k x m) e
 
-      pub clearing-stop : leadOf n w ≤ leadOf n (take n (drop (i * n) now))
+    module _ (h : i < d) where
+      next-row : rowsFrom n d m i ≡ take n (drop (i * n) now) ∷ rowsFrom n d m (suc i)
+      next-row = rows-next n m d i h ∙ ap (λ x. take n x ∷ rowsFrom n d m (suc i)) (sym (c .same))
+
+      pub clearing-stop : leadOf n w ≤ leadOf n (part n (i * n) now)
           → (i ≡ above n (rowsOf n d m) w) × (now ≡ join (cleared q n (rowsOf n d m) w) ++ drop (i * n) m)
       unfolding join
       clearing-stop l =
-          stopped (ap (λ x. join (cleared q n x w)) next ∙ ap join (cleared-below q n w _ _ l))
-          (ap (λ x. above n x w) next ∙ above-below q n w _ _ l)
+          stopped (ap (λ x. join (cleared q n x w)) next-row ∙ ap join (cleared-below q n w _ _ l))
+          (ap (λ x. above n x w) next-row ∙ above-below q n w _ _ l)
 
-      pub clearing-more : (row : List ℕ) (k : ℕ) → k ≡ n → d * n ≤ length m → leadOf n (take n (drop (i * n) now)) < leadOf n w
-          → row ≡ eliminate q n w (take k (drop (i * n) now))
-          → Clearing q n d m w (suc i) (take (i * n) now ++ (row ++ drop k (drop (i * n) now)))
+      pub clearing-more : (next : List ℕ) → d * n ≤ length m → leadOf n (part n (i * n) now) < leadOf n w
+          → next ≡ put n (i * n) (eliminate q n w (part n (i * n) now)) now → Clearing q n d m w (suc i) next
       unfolding join
-      clearing-more row k e fits l is =
+      clearing-more next fits l is =
+          subst (Clearing q n d m w (suc i)) (sym is)
           record {
             within = h;
             sized =
                 ap length (sym split) ∙ length-append done after ∙ omega (arith, done-length, length-drop (suc i * n) now, c .sized, row-fits i d n h);
             same = ap (drop (suc i * n)) (sym split) ∙ drop-at done after (suc i * n) done-length ∙ after-same;
             bytes =
-                c .bytes ∙ ap (λ x. take (i * n) now ++ join (cleared q n x w)) next
+                c .bytes ∙ ap (λ x. take (i * n) now ++ join (cleared q n x w)) next-row
                 ∙ ap (λ x. take (i * n) now ++ join x) (cleared-above q n w _ _ l)
-                ∙ ap (λ x. take (i * n) now ++ (x ++ rest)) (sym row-is)
                 ∙ sym (append-assoc (take (i * n) now) row rest)
                 ∙ ap (λ x. x ++ rest) (sym (ap (take (suc i * n)) (sym split) ∙ take-at done after (suc i * n) done-length));
-            count = c .count ∙ ap (λ x. i + above n x w) next ∙ ap (λ x. i + x) (above-above q n w _ _ l) ∙ omega arith;
+            count = c .count ∙ ap (λ x. i + above n x w) next-row ∙ ap (λ x. i + x) (above-above q n w _ _ l) ∙ omega arith;
           }
         where
+          row : List ℕ
+          row = eliminate q n w (part n (i * n) now)
+
           done : List ℕ
           done = take (i * n) now ++ row
 
@@ -110,21 +120,18 @@ module _ (q n d : ℕ) (m w : List ℕ) where
           rest : List ℕ
           rest = join (cleared q n (rowsFrom n d m (suc i)) w)
 
-          row-is : row ≡ eliminate q n w (take n (drop (i * n) now))
-          row-is = is ∙ ap (λ x. eliminate q n w (take x (drop (i * n) now))) e
-
           size : length row ≡ n
-          size = ap length row-is ∙ eliminate-length q n w (take n (drop (i * n) now))
+          size = eliminate-length q n w (take n (drop (i * n) now))
 
           done-length : length done ≡ suc i * n
           done-length =
               length-append (take (i * n) now) row
               ∙ omega (arith, length-take-le (i * n) now (omega (arith, c .sized, row-fits i d n h)), size)
 
-          split : done ++ after ≡ take (i * n) now ++ (row ++ drop k (drop (i * n) now))
+          split : done ++ after ≡ put n (i * n) row now
           split =
-              append-assoc (take (i * n) now) row after
-              ∙ ap (λ x. take (i * n) now ++ (row ++ x)) (sym (ap (λ y. drop y (drop (i * n) now)) e ∙ drop-next n now i))
+              let e : suc i * n ≡ i * n + n = omega arith in
+              append-assoc (take (i * n) now) row after ∙ ap (λ x. take (i * n) now ++ (row ++ drop x now)) e
 
           after-same : after ≡ drop (suc i * n) m
           after-same = sym (drop-next n now i) ∙ ap (drop n) (c .same) ∙ drop-next n m i

@@ -15,15 +15,14 @@ use native.Mathlib.Nat.{zero-mul, mul-comm, mul-sub, mul-le-mul-right}
 use native.Mathlib.Omega.{arith}
 use lib.Dec.{ltb}
 use lib.ListN.{length, take, drop, length-append}
-use lib.Seq.{paste}
+use lib.Seq.{take-at, drop-append-add, drop-drop}
 use Rattle.basics.specs.Choice.{pick}
 use Rattle.basics.specs.TableSize.{tabulate-length}
 use Rattle.linear.specs.Span.{rowsOf}
 use Rattle.linear.specs.Flat.{rows-length}
 use Rattle.linear.specs.FlatRows.{join-append, rows-drop, join-taken}
 use Rattle.linear.specs.Eliminate.{leadOf, eliminate, place, join}
-use Rattle.reduction.specs.Steps.{above, cleared, movedDown}
-use Rattle.reduction.specs.Moving.{put-in}
+use Rattle.reduction.specs.Steps.{part, above, cleared, raised}
 
 pub eliminate-length : (q n : ℕ) (r v : List ℕ) → length (eliminate q n r v) ≡ n
 unfolding eliminate
@@ -70,7 +69,11 @@ module _ (q n : ℕ) (w : List ℕ) where
       cases true e = length-append (eliminate q n w r) (join (cleared q n rs w)) ∙ omega (arith, eliminate-length q n w r)
       cases false e = sym (zero-mul n)
 
-module _ (q n d : ℕ) (m w : List ℕ) (lw : length w ≡ n) (fits : d * n + n ≤ length m) where
+module _ (q n d : ℕ) (m : List ℕ) where
+  -- row d
+  abbrev w : List ℕ
+  w = part n (d * n) m
+
   abbrev rows : List (List ℕ)
   rows = rowsOf n d m
 
@@ -95,14 +98,31 @@ module _ (q n d : ℕ) (m w : List ℕ) (lw : length w ≡ n) (fits : d * n + n 
       ap join (place-split q n w rows) ∙ join-append (cleared q n rows w) (w ∷ drop (above n rows w) rows)
       ∙ ap (λ x. join (cleared q n rows w) ++ (w ++ x)) rest-bytes
 
-  pub place-bytes : paste (movedDown n place-of (d * n) (join (cleared q n rows w) ++ drop place-of m)) place-of w (length w)
-      ≡ join (place q n rows w) ++ drop (d * n + n) m
+  pub place-bytes : raised n (d * n) place-of (join (cleared q n rows w) ++ drop place-of m) ≡ join (place q n rows w) ++ drop (d * n + n) m
   place-bytes =
-      put-in n place-of (d * n) (join (cleared q n rows w)) w m (cleared-length q n w rows) lw place-within fits
+      ap₂ (λ x y. x ++ (take n y ++ (part (d * n - place-of) place-of cut ++ drop (d * n + n) cut))) before (cut-after (d * n) place-within)
+      ∙ ap₂ (λ x y. front ++ (w ++ (take (d * n - place-of) x ++ y))) (cut-after place-of (omega arith)) (cut-after (d * n + n) (omega (arith, place-within)))
       ∙ sym
       (ap (λ x. x ++ drop (d * n + n) m) placed-bytes
-      ∙ append-assoc (join (cleared q n rows w)) (w ++ middle) (drop (d * n + n) m)
-      ∙ ap (λ x. join (cleared q n rows w) ++ x) (append-assoc w middle (drop (d * n + n) m)))
+      ∙ append-assoc front (w ++ middle) (drop (d * n + n) m)
+      ∙ ap (λ x. front ++ x) (append-assoc w middle (drop (d * n + n) m)))
     where
+      front : List ℕ
+      front = join (cleared q n rows w)
+
       middle : List ℕ
       middle = take (d * n - place-of) (drop place-of m)
+
+      cut : List ℕ
+      cut = front ++ drop place-of m
+
+      before : take place-of cut ≡ front
+      before = take-at front (drop place-of m) place-of (cleared-length q n w rows)
+
+      -- from there on the bytes are m's
+      cut-after : (k : ℕ) → place-of ≤ k → drop k cut ≡ drop k m
+      cut-after k l =
+          let e : length front + (k - place-of) ≡ k = omega (arith, cleared-length q n w rows) in
+          let e′ : place-of + (k - place-of) ≡ k = omega arith in
+          ap (λ x. drop x cut) (sym e) ∙ drop-append-add front (drop place-of m) (k - place-of)
+          ∙ drop-drop (k - place-of) place-of m ∙ ap (λ x. drop x m) e′

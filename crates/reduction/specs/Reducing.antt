@@ -1,52 +1,37 @@
 -- The rows of a matrix taken in one after the other; no part of the meaning.
---   Reducing         == the bytes hold the reduced rows of the first i rows, d of them, then zeros
+--   Reducing         == the bytes hold the reduced rows of the first i rows, d of them, then zeros, and `pivots` their leads
 --   reducing-start   == before the first row
---   reducing-kept, reducing-row == what taking in the next row asks
+--   reducing-row, reducing-kept, reducing-held, reducing-leads == what taking in the next row asks
 --   reducing-more    == one row more
---   copied-whole     == a copy over as many bytes leaves what was copied
 -- Assumes nothing.
 use mathlib.Core.Path.{_≡_, refl, ap, ap₂, sym, _∙_, subst}
-use mathlib.Core.List.{List, _++_, append-nil}
-use Prim.Native.Nat.{ℕ, suc, _+_, _*_, _-_, _≤_, _<_}
-use native.Mathlib.Nat.{mul-le-mul-right, sub-zero}
+use mathlib.Core.List.{List}
+use Prim.Native.Nat.{ℕ, suc, _*_, _≤_, _<_}
+use native.Mathlib.Nat.{sub-zero}
 use native.Mathlib.Omega.{arith}
-use lib.ListN.{length, getD, take, drop, replicate, drop-of-length-le}
-use lib.Seq.{drop-append-add, take-all, paste}
+use lib.ListN.{length, getD, take, drop, replicate}
 use Rattle.basics.specs.Flat.{row-fits}
-use Rattle.basics.specs.Replicate.{drop-replicate}
 use Rattle.field.specs.Laws.{Laws}
 use Rattle.linear.specs.Span.{All, Row, rowsOf}
 use Rattle.linear.specs.Eliminate.{join, insertRow, insertRows, reducedRows, reducedOf, dimension}
 use Rattle.linear.specs.Every.{all-of}
-use Rattle.linear.specs.Flat.{rows-length, join-length}
 use Rattle.linear.specs.FlatRows.{rows-last, rows-each, rows-valid}
 use Rattle.linear.specs.InsertMany.{Kept}
 use Rattle.linear.specs.ReducedOf.{reducedRows-kept}
-use Rattle.linear.specs.ReducedRows.{rows-sized}
 use Rattle.linear.specs.OneMore.{reducedRows-more}
 use Rattle.reduction.specs.Padded.{padded}
 use Rattle.reduction.specs.Held.{padded-held}
-use Rattle.reduction.specs.Inserting.{insert-grows}
+use Rattle.reduction.specs.Steps.{leads}
 
-pub copied-whole : (old new : List ℕ) → length new ≡ length old → paste old 0 new (length new) ≡ new
-copied-whole old new e =
-    ap₂ (λ (x y : List ℕ). x ++ y) (take-all (length new) new (omega arith)) (drop-of-length-le old {i = 0 + length new} (omega arith)) ∙ append-nil new
-
-drop-padded : (size k : ℕ) (l : List ℕ) → length l ≤ k → drop k (padded size l) ≡ replicate (size - k) 0
-unfolding padded
-drop-padded size k l h =
-    let e : length l + (k - length l) ≡ k = omega arith in
-    let left : size - length l - (k - length l) ≡ size - k = omega arith in
-    ap (λ x. drop x (padded size l)) (sym e) ∙ drop-append-add l (replicate (size - length l) 0) (k - length l)
-    ∙ drop-replicate (k - length l) (size - length l) 0 ∙ ap (λ x. replicate x 0) left
-
-pub record Reducing (q n : ℕ) (input : List ℕ) (i d : ℕ) (rows : List ℕ) : Type 0 where
+pub record Reducing (q n : ℕ) (input : List ℕ) (i d : ℕ) (rows pivots : List ℕ) : Type 0 where
   pub count : d ≡ dimension q n (rowsOf n i input)
   pub bytes : rows ≡ padded (n * n) (reducedOf q n (rowsOf n i input))
+  pub known : take d pivots ≡ leads n (reducedRows q n (rowsOf n i input))
 
-pub reducing-start : (q n : ℕ) (input : List ℕ) → Reducing q n input 0 0 (replicate (n * n) 0)
-unfolding rowsOf dimension reducedOf reducedRows insertRows join padded
-reducing-start q n input = record { count = refl; bytes = ap (λ x. replicate x 0) (sym (sub-zero (n * n))) }
+pub reducing-start : (q n : ℕ) (input rows pivots : List ℕ) → rows ≡ replicate (n * n) 0 → Reducing q n input 0 0 rows pivots
+unfolding rowsOf dimension reducedOf reducedRows insertRows join padded leads
+reducing-start q n input rows pivots zeros =
+    record { count = refl; bytes = zeros ∙ ap (λ x. replicate x 0) (sym (sub-zero (n * n))); known = refl }
 
 module _ (q : ℕ) (laws : Laws q) (n count : ℕ) (input : List ℕ) (size : length input ≡ count * n)
     (below : (j : ℕ) → j < length input → getD input j 0 < q) (i : ℕ) (h : i < count) where
@@ -56,53 +41,36 @@ module _ (q : ℕ) (laws : Laws q) (n count : ℕ) (input : List ℕ) (size : le
   pub reducing-row : (k : ℕ) → k ≡ n → Row q n (take k (drop (i * n) input))
   reducing-row k e = rows-each n input count i k (rows-all-valid count (omega arith)) h e
 
-  module _ (d : ℕ) (rows : List ℕ) (c : Reducing q n input i d rows) where
-    before : List (List ℕ)
-    before = reducedRows q n (rowsOf n i input)
-
+  module _ (d : ℕ) (rows pivots : List ℕ) (c : Reducing q n input i d rows pivots) where
     valid : All (Row q n) (rowsOf n i input)
     valid = rows-all-valid i (omega (arith, row-fits i count n h))
 
-    kept : Kept q n before
-    unfolding before
-    kept = reducedRows-kept q laws n (rowsOf n i input) valid
-
-    held : rowsOf n d rows ≡ before
-    unfolding before
-    held = ap₂ (rowsOf n) (c .count) (c .bytes) ∙ padded-held q laws n (rowsOf n i input) valid (n * n)
+    same : rowsOf n d rows ≡ reducedRows q n (rowsOf n i input)
+    same = ap₂ (rowsOf n) (c .count) (c .bytes) ∙ padded-held q laws n (rowsOf n i input) valid (n * n)
 
     pub reducing-kept : Kept q n (rowsOf n d rows)
-    reducing-kept = subst (Kept q n) (sym held) kept
+    reducing-kept = subst (Kept q n) (sym same) (reducedRows-kept q laws n (rowsOf n i input) valid)
 
-    pub reducing-more : (r : ℕ) (row after : List ℕ) → row ≡ take n (drop (i * n) input)
+    pub reducing-held : rows ≡ padded (n * n) (join (rowsOf n d rows))
+    unfolding reducedOf
+    reducing-held = c .bytes ∙ ap (λ x. padded (n * n) (join x)) (sym same)
+
+    pub reducing-leads : take d pivots ≡ leads n (rowsOf n d rows)
+    reducing-leads = c .known ∙ ap (leads n) (sym same)
+
+    pub reducing-more : (r : ℕ) (row after new : List ℕ) → row ≡ take n (drop (i * n) input)
         → r ≡ length (insertRow q n (rowsOf n d rows) row)
-        → after ≡ join (insertRow q n (rowsOf n d rows) row) ++ drop (r * n) rows → Reducing q n input (suc i) r after
-    unfolding before dimension reducedOf padded
-    reducing-more r row after is count-is bytes-is =
+        → after ≡ padded (n * n) (join (insertRow q n (rowsOf n d rows) row))
+        → take r new ≡ leads n (insertRow q n (rowsOf n d rows) row) → Reducing q n input (suc i) r after new
+    unfolding dimension reducedOf
+    reducing-more r row after new is count-is bytes-is known-is =
         record {
-          count = count-is ∙ ap length new;
-          bytes = bytes-is ∙ ap₂ (λ x y. join x ++ y) new zeros;
+          count = count-is ∙ ap length one-more;
+          bytes = bytes-is ∙ ap (λ x. padded (n * n) (join x)) one-more;
+          known = known-is ∙ ap (leads n) one-more;
         }
       where
-        new : insertRow q n (rowsOf n d rows) row ≡ reducedRows q n (rowsOf n (suc i) input)
-        new =
-            ap₂ (insertRow q n) held is ∙ sym (reducedRows-more q n (rowsOf n i input) (take n (drop (i * n) input)))
+        one-more : insertRow q n (rowsOf n d rows) row ≡ reducedRows q n (rowsOf n (suc i) input)
+        one-more =
+            ap₂ (insertRow q n) same is ∙ sym (reducedRows-more q n (rowsOf n i input) (take n (drop (i * n) input)))
             ∙ ap (reducedRows q n) (sym (rows-last n input i))
-
-        -- r is the number of the rows
-        length-after : length (join (reducedRows q n (rowsOf n (suc i) input))) ≡ r * n
-        length-after =
-            join-length n
-            (rows-sized q n (reducedRows-kept q laws n (rowsOf n (suc i) input) (rows-all-valid (suc i) (omega (arith, row-fits i count n h))) .rows))
-            ∙ ap (λ x. x * n) (sym (count-is ∙ ap length new))
-
-        length-before : length (join before) ≡ d * n
-        length-before = join-length n (rows-sized q n (kept .rows)) ∙ ap (λ x. x * n) (sym (c .count))
-
-        grows : d * n ≤ r * n
-        grows = mul-le-mul-right n (omega (arith, insert-grows q n (rowsOf n d rows) row, rows-length n d rows))
-
-        zeros : drop (r * n) rows ≡ replicate (n * n - length (join (reducedRows q n (rowsOf n (suc i) input)))) 0
-        zeros =
-            ap (drop (r * n)) (c .bytes) ∙ drop-padded (n * n) (r * n) (join before) (omega (arith, length-before, grows))
-            ∙ ap (λ x. replicate (n * n - x) 0) (sym length-after)

@@ -1,112 +1,105 @@
 // Row reduction on lent bytes: matrices are flat, row by row, with n bytes a row.
 ghost use mathlib.Core.Path.{_≡_};
-ghost use mathlib.Core.Bool.{true};
 ghost use mathlib.Core.List.{_++_};
-ghost use mathlib.Core.Logic.{_↔_};
-ghost use Prim.Native.Nat.{ℕ, _+_, _*_, _≤_, _<_};
+ghost use Prim.Native.Nat.{ℕ, _+_, _*_, _-_, _≤_, _<_};
 ghost use lib.Dec.{T};
-ghost use lib.ListN.{length, getD, drop};
+ghost use lib.ListN.{length, getD, take, drop, replicate};
 ghost use lib.Seq.{paste};
 ghost use Rattle.field.specs.Field.{isFieldSize};
-ghost use Rattle.linear.specs.Span.{All, Row, InSpan, rowsOf};
+ghost use Rattle.linear.specs.Span.{All, Row, rowsOf};
 ghost use Rattle.linear.specs.Eliminate.{leadOf, eliminate as eliminated, residue as residueOf, monic as monicOf, place as placed};
-ghost use Rattle.linear.specs.Eliminate.{insertRow, join, reducedOf, dimension};
+ghost use Rattle.linear.specs.Eliminate.{insertRow, join, reducedRows, reducedOf, dimension};
 ghost use Rattle.linear.specs.InsertMany.{Kept};
 ghost use Rattle.reduction.specs.Padded.{padded};
-ghost use Rattle.reduction.specs.Steps.{plusMultiple, multiple, above, cleared, movedDown};
+ghost use Rattle.reduction.specs.Steps.{part, put, Apart, plusMultiple, multiple, leads, above, cleared, swapped, raised};
 
-// Adds c times `source` to `target`.
-fn add_scaled(q: u64, n: usize, c: u8, source: &[u8], target: &mut [u8])
-    requires { ⌜ T (isFieldSize q) × (length (now source) ≡ n) × (length (now target) ≡ n) ⌝ }
-    ensures { λ _. ⌜ now (target .exit) ≡ plusMultiple q n c (now (source .entry)) (now (target .entry)) ⌝ }
+// Adds c times the row at `from` to the row at `to`.
+fn add_scaled(q: u64, n: usize, c: u8, m: &mut [u8], from: usize, to: usize)
+    requires { ⌜ T (isFieldSize q) × (c < q) × Row q n (part n from (now m)) × Row q n (part n to (now m)) × Apart n from to ⌝ }
+    requires { ⌜ (from + n ≤ length (now m)) × (to + n ≤ length (now m)) ⌝ }
+    ensures { λ _. ⌜ now (m .exit) ≡ put n to (plusMultiple q n c (part n from (now (m .entry))) (part n to (now (m .entry)))) (now (m .entry)) ⌝ }
 {
     let mut j = 0;
     while j < n {
-        target[j] = field::add_product(q, target[j], c, source[j]);
+        m[to + j] = field::add_product(q, m[to + j], c, m[from + j]);
         j += 1;
     }
 }
 
-// Adds `source` to `target`.
-fn add_row(q: u64, n: usize, source: &[u8], target: &mut [u8])
-    requires { ⌜ T (isFieldSize q) × Row q n (now source) × (length (now target) ≡ n) ⌝ }
-    ensures { λ _. ⌜ now (target .exit) ≡ plusMultiple q n 1 (now (source .entry)) (now (target .entry)) ⌝ }
+// Takes from the row at `to` the multiple of the row at `from` that makes it zero at p, that row's lead. Where it is zero there already,
+// nothing is left to do.
+fn eliminate(q: u64, n: usize, p: usize, m: &mut [u8], from: usize, to: usize)
+    requires { ⌜ T (isFieldSize q) × (p < n) × Row q n (part n from (now m)) × Row q n (part n to (now m)) × Apart n from to ⌝ }
+    requires { ⌜ (from + n ≤ length (now m)) × (to + n ≤ length (now m)) × (p ≡ leadOf n (part n from (now m))) ⌝ }
+    ensures { λ _. ⌜ now (m .exit) ≡ put n to (eliminated q n (part n from (now (m .entry))) (part n to (now (m .entry)))) (now (m .entry)) ⌝ }
 {
+    let entry = m[to + p];
+    if entry != 0 {
+        let c = field::negate(q, entry);
+        add_scaled(q, n, c, m, from, to);
+    }
+}
+
+// Writes `row`, less the multiple of m's first row that makes it zero at p, that row's lead, to the place `to` of m.
+fn enter(q: u64, n: usize, p: usize, row: &[u8], m: &mut [u8], to: usize)
+    requires { ⌜ T (isFieldSize q) × (p < n) × Row q n (now row) × Row q n (part n 0 (now m)) × (n ≤ to) × (to + n ≤ length (now m)) ⌝ }
+    requires { ⌜ p ≡ leadOf n (part n 0 (now m)) ⌝ }
+    ensures { λ _. ⌜ now (m .exit) ≡ put n to (eliminated q n (part n 0 (now (m .entry))) (now (row .entry))) (now (m .entry)) ⌝ }
+{
+    let c = field::negate(q, row[p]);
     let mut j = 0;
     while j < n {
-        target[j] = field::add(q, target[j], source[j]);
+        m[to + j] = field::add_product(q, row[j], c, m[j]);
         j += 1;
     }
 }
 
-// Adds c times `source` to `target`. Where q = 2 every multiple that isn't zero is the row itself, and needs no product.
-fn add_multiple(q: u64, n: usize, c: u8, source: &[u8], target: &mut [u8])
-    requires { ⌜ T (isFieldSize q) × Row q n (now source) × (length (now target) ≡ n) ⌝ }
-    ensures { λ _. ⌜ now (target .exit) ≡ plusMultiple q n c (now (source .entry)) (now (target .entry)) ⌝ }
+// Copies `source` to the places of `target` from `start` on.
+fn copy(source: &[u8], target: &mut [u8], start: usize)
+    requires { ⌜ start + length (now source) ≤ length (now target) ⌝ }
+    ensures { λ _. ⌜ now (target .exit) ≡ paste (now (target .entry)) start (now (source .entry)) (length (now (source .entry))) ⌝ }
 {
-    if q == 2 {
-        if c == 1 {
-            add_row(q, n, source, target);
-            return;
-        }
-    }
-    add_scaled(q, n, c, source, target);
-}
-
-// Takes from v the multiple of r that makes v zero at p, r's lead. Where v is zero there already, nothing is left to do.
-fn eliminate(q: u64, n: usize, p: usize, r: &[u8], v: &mut [u8])
-    requires { ⌜ T (isFieldSize q) × Row q n (now r) × Row q n (now v) × (p ≡ leadOf n (now r)) ⌝ }
-    ensures { λ _. ⌜ now (v .exit) ≡ eliminated q n (now (r .entry)) (now (v .entry)) ⌝ }
-{
-    if p < n {
-        let entry = v[p];
-        if entry != 0 {
-            let c = field::negate(q, entry);
-            add_multiple(q, n, c, r, v);
-        }
+    let mut j = 0;
+    while j < source.len() {
+        target[start + j] = source[j];
+        j += 1;
     }
 }
 
-// Eliminates with each of the d reduced rows. Their leads rise, so each is searched after the one before.
-fn residue(q: u64, n: usize, d: usize, rows: &[u8], v: &mut [u8])
-    requires { ⌜ T (isFieldSize q) × (d * n ≤ length (now rows)) × Kept q n (rowsOf n d (now rows)) × Row q n (now v) ⌝ }
-    ensures { λ _. ⌜ now (v .exit) ≡ residueOf q n (rowsOf n d (now (rows .entry))) (now (v .entry)) ⌝ }
+// Writes `row`, eliminated with each of the d reduced rows of m, to the place after them. `pivots` holds their leads.
+fn residue(q: u64, n: usize, d: usize, row: &[u8], m: &mut [u8], pivots: &[u8])
+    requires { ⌜ T (isFieldSize q) × (d * n + n ≤ length (now m)) × Kept q n (rowsOf n d (now m)) × Row q n (now row) ⌝ }
+    requires { ⌜ (d ≤ length (now pivots)) × (take d (now pivots) ≡ leads n (rowsOf n d (now m))) ⌝ }
+    ensures { λ _. ⌜ now (m .exit) ≡ put n (d * n) (residueOf q n (rowsOf n d (now (m .entry))) (now (row .entry))) (now (m .entry)) ⌝ }
 {
-    let mut from = 0;
-    let mut i = 0;
+    if d == 0 {
+        copy(row, m, 0);
+        return;
+    }
+    let to = d * n;
+    enter(q, n, pivots[0] as usize, row, m, to);
+    let mut i = 1;
     while i < d {
-        let start = i * n;
-        let p = from + matrix::lead(rows, start + from, n - from);
-        eliminate(q, n, p, &rows[start..start + n], v);
-        from = p + 1;
+        eliminate(q, n, pivots[i] as usize, m, i * n, to);
         i += 1;
     }
 }
 
-// Whether `row` is in the span of the d reduced rows. `row` is left with its residue.
-pub fn in_span(q: u64, n: usize, d: usize, rows: &[u8], row: &mut [u8]) -> bool
-    requires { ⌜ T (isFieldSize q) × (d * n ≤ length (now rows)) × Kept q n (rowsOf n d (now rows)) × Row q n (now row) ⌝ }
-    ensures { λ r. ⌜ (r ≡ true) ↔ InSpan q n (rowsOf n d (now (rows .entry))) (now (row .entry)) ⌝ }
-{
-    residue(q, n, d, rows, row);
-    matrix::lead(row, 0, n) == n
-}
-
 // Multiplies v by c.
 fn scale(q: u64, n: usize, c: u8, v: &mut [u8])
-    requires { ⌜ T (isFieldSize q) × (length (now v) ≡ n) ⌝ }
+    requires { ⌜ T (isFieldSize q) × (c < q) × Row q n (now v) ⌝ }
     ensures { λ _. ⌜ now (v .exit) ≡ multiple q n c (now (v .entry)) ⌝ }
 {
     let mut j = 0;
     while j < n {
-        v[j] = field::multiply(q, c, v[j]);
+        v[j] = field::add_product(q, 0, c, v[j]);
         j += 1;
     }
 }
 
 // Divides v by its entry at p, its lead.
 fn divide(q: u64, n: usize, p: usize, v: &mut [u8])
-    requires { ⌜ T (isFieldSize q) × (length (now v) ≡ n) × (p ≡ leadOf n (now v)) × (p < n) ⌝ }
+    requires { ⌜ T (isFieldSize q) × Row q n (now v) × (p ≡ leadOf n (now v)) × (p < n) ⌝ }
     ensures { λ _. ⌜ now (v .exit) ≡ monicOf q n (now (v .entry)) ⌝ }
 {
     let pivot = v[p];
@@ -124,113 +117,132 @@ fn monic(q: u64, n: usize, p: usize, v: &mut [u8])
     }
 }
 
-// Clears w's lead in the rows whose lead lies before it, and says how many they are.
-fn clear_above(q: u64, n: usize, d: usize, rows: &mut [u8], w: &[u8]) -> usize
-    requires { ⌜ T (isFieldSize q) × (d * n ≤ length (now rows)) × All (Row q n) (rowsOf n d (now rows)) × Row q n (now w) ⌝ }
-    ensures { λ r. ⌜ r ≡ above n (rowsOf n d (now (rows .entry))) (now (w .entry)) ⌝ }
-    ensures { λ r. ⌜ now (rows .exit) ≡ join (cleared q n (rowsOf n d (now (rows .entry))) (now (w .entry))) ++ drop (r * n) (now (rows .entry)) ⌝ }
+// Clears p, the lead of row d, in those of the rows before it whose lead lies before p, and says how many they are.
+fn clear_above(q: u64, n: usize, d: usize, p: usize, m: &mut [u8], pivots: &[u8]) -> usize
+    requires { ⌜ T (isFieldSize q) × (d * n + n ≤ length (now m)) × All (Row q n) (rowsOf n d (now m)) × Row q n (part n (d * n) (now m)) ⌝ }
+    requires { ⌜ (d ≤ length (now pivots)) × (take d (now pivots) ≡ leads n (rowsOf n d (now m))) × (p < n) × (p ≡ leadOf n (part n (d * n) (now m))) ⌝ }
+    ensures { λ r. ⌜ r ≡ above n (rowsOf n d (now (m .entry))) (part n (d * n) (now (m .entry))) ⌝ }
+    ensures { λ r. ⌜ now (m .exit) ≡ join (cleared q n (rowsOf n d (now (m .entry))) (part n (d * n) (now (m .entry)))) ++ drop (r * n) (now (m .entry)) ⌝ }
 {
-    let p = matrix::lead(w, 0, n);
+    let from = d * n;
     let mut i = 0;
     while i < d {
-        let start = i * n;
-        if p <= matrix::lead(rows, start, n) {
+        if p <= pivots[i] as usize {
             return i;
         }
-        eliminate(q, n, p, w, &mut rows[start..start + n]);
+        eliminate(q, n, p, m, from, i * n);
         i += 1;
     }
     i
 }
 
-// Copies the bytes from `start` to `end` to n places further down, the last first.
-fn move_down(m: &mut [u8], n: usize, start: usize, end: usize)
-    requires { ⌜ (start ≤ end) × (end + n ≤ length (now m)) ⌝ }
-    ensures { λ _. ⌜ now (m .exit) ≡ movedDown n start end (now (m .entry)) ⌝ }
-{
-    let mut i = end;
-    while i > start {
-        let a = i - 1;
-        m[a + n] = m[a];
-        i = a;
-    }
-}
-
-// Copies `source` to the places of `target` from `start` on.
-fn copy(source: &[u8], target: &mut [u8], start: usize)
-    requires { ⌜ start + length (now source) ≤ length (now target) ⌝ }
-    ensures { λ _. ⌜ now (target .exit) ≡ paste (now (target .entry)) start (now (source .entry)) (length (now (source .entry))) ⌝ }
+// Exchanges the row at `at` and the next one.
+fn swap(n: usize, m: &mut [u8], at: usize)
+    requires { ⌜ at + n + n ≤ length (now m) ⌝ }
+    ensures { λ _. ⌜ now (m .exit) ≡ swapped n at (now (m .entry)) ⌝ }
 {
     let mut j = 0;
-    while j < source.len() {
-        target[start + j] = source[j];
+    while j < n {
+        let above = m[at + j];
+        m[at + j] = m[at + n + j];
+        m[at + n + j] = above;
         j += 1;
     }
 }
 
-// Puts w among the d rows in the order of leads, and clears w's lead in the rows above it.
-fn place(q: u64, n: usize, d: usize, rows: &mut [u8], w: &[u8])
-    requires { ⌜ T (isFieldSize q) × (d * n + n ≤ length (now rows)) × All (Row q n) (rowsOf n d (now rows)) × Row q n (now w) ⌝ }
-    ensures { λ _. ⌜ now (rows .exit) ≡ join (placed q n (rowsOf n d (now (rows .entry))) (now (w .entry))) ++ drop (d * n + n) (now (rows .entry)) ⌝ }
+// Moves row d up to row `at`, and the rows between one down.
+fn raise(n: usize, d: usize, at: usize, m: &mut [u8])
+    requires { ⌜ (at ≤ d) × (d * n + n ≤ length (now m)) ⌝ }
+    ensures { λ _. ⌜ now (m .exit) ≡ raised n (d * n) (at * n) (now (m .entry)) ⌝ }
 {
-    let at = clear_above(q, n, d, rows, w);
-    let start = at * n;
-    let end = d * n;
-    move_down(rows, n, start, end);
-    copy(w, rows, start);
+    let mut i = d;
+    while i > at {
+        i -= 1;
+        swap(n, m, i * n);
+    }
 }
 
-// Takes `row` into the d reduced rows by its residue, and answers how many there are now.
-fn insert_residue(q: u64, n: usize, d: usize, rows: &mut [u8], row: &mut [u8]) -> usize
-    requires { ⌜ T (isFieldSize q) × Kept q n (rowsOf n d (now rows)) × (n * n ≤ length (now rows)) × Row q n (now row) ⌝ }
-    ensures { λ r. ⌜ r ≡ length (insertRow q n (rowsOf n d (now (rows .entry))) (now (row .entry))) ⌝ }
-    ensures { λ r. ⌜ now (rows .exit) ≡ join (insertRow q n (rowsOf n d (now (rows .entry))) (now (row .entry))) ++ drop (r * n) (now (rows .entry)) ⌝ }
+// Puts row d among the d rows before it in the order of leads, and clears p, its lead, in the rows above it.
+fn place(q: u64, n: usize, d: usize, p: usize, m: &mut [u8], pivots: &mut [u8])
+    requires { ⌜ T (isFieldSize q) × (d * n + n ≤ length (now m)) × All (Row q n) (rowsOf n d (now m)) × Row q n (part n (d * n) (now m)) ⌝ }
+    requires { ⌜ (d < length (now pivots)) × (take d (now pivots) ≡ leads n (rowsOf n d (now m))) × (p < n) × (n ≤ 256) × (p ≡ leadOf n (part n (d * n) (now m))) ⌝ }
+    ensures { λ _. ⌜ now (m .exit) ≡ join (placed q n (rowsOf n d (now (m .entry))) (part n (d * n) (now (m .entry)))) ++ drop (d * n + n) (now (m .entry)) ⌝ }
+    ensures { λ _. ⌜ take (d + 1) (now (pivots .exit)) ≡ leads n (placed q n (rowsOf n d (now (m .entry))) (part n (d * n) (now (m .entry)))) ⌝ }
 {
-    residue(q, n, d, rows, row);
-    let p = matrix::lead(row, 0, n);
+    let at = clear_above(q, n, d, p, m, pivots);
+    raise(n, d, at, m);
+    pivots[d] = p as u8;
+    raise(1, d, at, pivots);
+}
+
+// Takes `row` into the d reduced rows of m, which has room for one more, by its residue; answers how many there are now. Zeros follow them.
+fn insert_residue(q: u64, n: usize, d: usize, row: &[u8], m: &mut [u8], pivots: &mut [u8]) -> usize
+    requires { ⌜ T (isFieldSize q) × (d * n + n ≤ length (now m)) × Kept q n (rowsOf n d (now m)) × Row q n (now row) ⌝ }
+    requires { ⌜ (d < length (now pivots)) × (take d (now pivots) ≡ leads n (rowsOf n d (now m))) × (n ≤ 256) ⌝ }
+    requires { ⌜ drop (d * n + n) (now m) ≡ replicate (length (now m) - (d * n + n)) 0 ⌝ }
+    ensures { λ r. ⌜ r ≡ length (insertRow q n (rowsOf n d (now (m .entry))) (now (row .entry))) ⌝ }
+    ensures { λ _. ⌜ now (m .exit) ≡ padded (length (now (m .entry))) (join (insertRow q n (rowsOf n d (now (m .entry))) (now (row .entry)))) ⌝ }
+    ensures { λ r. ⌜ take r (now (pivots .exit)) ≡ leads n (insertRow q n (rowsOf n d (now (m .entry))) (now (row .entry))) ⌝ }
+{
+    residue(q, n, d, row, m, pivots);
+    let at = d * n;
+    let p = matrix::lead(m, at, n);
     if p == n {
         return d;
     }
-    monic(q, n, p, row);
-    place(q, n, d, rows, row);
+    monic(q, n, p, &mut m[at..at + n]);
+    place(q, n, d, p, m, pivots);
     d + 1
 }
 
-// Takes `row` into the d reduced rows and answers how many there are now; n of them span every row already. `row` is left with bytes of no
-// meaning.
-pub fn insert(q: u64, n: usize, d: usize, rows: &mut [u8], row: &mut [u8]) -> usize
-    requires { ⌜ T (isFieldSize q) × Kept q n (rowsOf n d (now rows)) × (n * n ≤ length (now rows)) × Row q n (now row) ⌝ }
-    ensures { λ r. ⌜ r ≡ length (insertRow q n (rowsOf n d (now (rows .entry))) (now (row .entry))) ⌝ }
-    ensures { λ r. ⌜ now (rows .exit) ≡ join (insertRow q n (rowsOf n d (now (rows .entry))) (now (row .entry))) ++ drop (r * n) (now (rows .entry)) ⌝ }
+// Takes `row` into the d reduced rows of m, which has room for n rows and holds zeros after them, and answers how many there are now; n of
+// them span every row already. `pivots` holds their leads.
+pub fn insert(q: u64, n: usize, d: usize, row: &[u8], m: &mut [u8], pivots: &mut [u8]) -> usize
+    requires { ⌜ T (isFieldSize q) × Kept q n (rowsOf n d (now m)) × (now m ≡ padded (n * n) (join (rowsOf n d (now m)))) × Row q n (now row) ⌝ }
+    requires { ⌜ (n ≤ length (now pivots)) × (take d (now pivots) ≡ leads n (rowsOf n d (now m))) × (n ≤ 256) ⌝ }
+    ensures { λ r. ⌜ r ≡ length (insertRow q n (rowsOf n d (now (m .entry))) (now (row .entry))) ⌝ }
+    ensures { λ _. ⌜ now (m .exit) ≡ padded (n * n) (join (insertRow q n (rowsOf n d (now (m .entry))) (now (row .entry)))) ⌝ }
+    ensures { λ r. ⌜ take r (now (pivots .exit)) ≡ leads n (insertRow q n (rowsOf n d (now (m .entry))) (now (row .entry))) ⌝ }
 {
     if d == n {
         return d;
     }
-    insert_residue(q, n, d, rows, row)
+    insert_residue(q, n, d, row, m, pivots)
 }
 
-// Writes the reduced matrix of the `count` rows of `input` to `rows`, with zeros after it, and answers its number of rows. `row` holds one
-// row at a time.
+// Writes the leads of the d rows of m to `pivots`.
+pub fn find_leads(n: usize, d: usize, m: &[u8], pivots: &mut [u8])
+    requires { ⌜ (n < 256) × (d * n ≤ length (now m)) × (d ≤ length (now pivots)) ⌝ }
+    ensures { λ _. ⌜ take d (now (pivots .exit)) ≡ leads n (rowsOf n d (now (m .entry))) ⌝ }
+{
+    let mut i = 0;
+    while i < d {
+        pivots[i] = matrix::lead(m, i * n, n) as u8;
+        i += 1;
+    }
+}
+
+// Takes the `count` rows of `input` into m, which is all zeros, and answers how many reduced rows it then holds. `pivots` is left with their
+// leads.
 pub fn reduce(
     q: u64,
     n: usize,
     count: usize,
     input: &[u8],
-    rows: &mut [u8],
-    row: &mut [u8],
+    m: &mut [u8],
+    pivots: &mut [u8],
 ) -> usize
     requires { ⌜ T (isFieldSize q) × (length (now input) ≡ count * n) × ((i : ℕ) → i < length (now input) → getD (now input) i 0 < q) ⌝ }
-    requires { ⌜ (length (now rows) ≡ n * n) × (length (now row) ≡ n) ⌝ }
+    requires { ⌜ (now m ≡ replicate (n * n) 0) × (n ≤ length (now pivots)) × (n ≤ 256) ⌝ }
     ensures { λ r. ⌜ r ≡ dimension q n (rowsOf n count (now (input .entry))) ⌝ }
-    ensures { λ _. ⌜ now (rows .exit) ≡ padded (n * n) (reducedOf q n (rowsOf n count (now (input .entry)))) ⌝ }
+    ensures { λ _. ⌜ now (m .exit) ≡ padded (n * n) (reducedOf q n (rowsOf n count (now (input .entry)))) ⌝ }
+    ensures { λ r. ⌜ take r (now (pivots .exit)) ≡ leads n (reducedRows q n (rowsOf n count (now (input .entry)))) ⌝ }
 {
-    matrix::clear(rows);
     let mut d = 0;
     let mut i = 0;
     while i < count {
         let at = i * n;
-        copy(&input[at..at + n], row, 0);
-        d = insert(q, n, d, rows, row);
+        d = insert(q, n, d, &input[at..at + n], m, pivots);
         i += 1;
     }
     d

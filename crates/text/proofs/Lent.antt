@@ -16,7 +16,7 @@ use mir.Val.{Val, vbool, vptr}
 use base.Logic.{SProp, ent, sep, wand, ex, id⊢}
 use base.Fml.{Lft, Share, GName, Incl, ftrue, fsep, fat, flft, fdead, fres, flent}
 use prog.Wp.{Heap, Env, Calls, Loops}
-use ghost.Atoms.{Atoms, sem}
+use ghost.Atoms.{Atoms}
 use contract.Monad.{fact}
 use types.Kit.{Given, Item, Post, Seq, runs, lands, ‵, raw, some, later, _⊛_, ⋆, _$_, _∵_, !, qed, move, keep, drop, use1, use2, use3, split, join, pick, rewrite, fsplit, fjoin, fpick, fpack, apply, frame, await, updating, now as at-once, show, done}
 use types.Run.{Opds}

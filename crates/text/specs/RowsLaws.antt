@@ -18,7 +18,7 @@ use lib.ListN.{length, getD, take, set, length-append, List·getD-append}
 use lib.Seq.{getD-append-add, take-suc, take-suc-set}
 use Rattle.basics.specs.Flat.{row-fits}
 use Rattle.basics.specs.Order.{le-or-lt}
-use Rattle.basics.specs.Table.{tabulate, table-at}
+use Rattle.basics.specs.Table.{table-at}
 use Rattle.basics.specs.TableSize.{tabulate-length}
 use Rattle.text.specs.Text.{slash, glyph}
 use Rattle.text.specs.Rows.{rowText, rowsText}

@@ -1,6 +1,7 @@
 -- `extended::column_term` meets its contract: the vector's bits give w and v_j, and peeling gives the column's term.
 use mathlib.Core.Path.{_≡_, ap, ap₂, _∙_, sym}
 use Prim.Native.Nat.{_-_, _*_}
+use native.Mathlib.Nat.{zero-mul, zero-add}
 use native.Mathlib.Omega.{arith}
 use borrow.Author.Needs.{needs}
 use Rattle.field.specs.Small.{size-small}
@@ -56,8 +57,8 @@ free-count-requires c κs =
     let s = c .before .before .before .before in
     (s .pre .0 .size, omega arith, omega arith, omega (arith, found (c .before .before) .count))
 
-top-value-requires : tie.Need-top-value-requires
-top-value-requires c κs =
+append-digits-requires : tie.Need-append-digits-requires
+append-digits-requires c κs =
     let s = c .before .before .before .before in
     top-asked (s .pre .0) (s .pre .1) (omega arith) (omega arith)
 
@@ -68,7 +69,7 @@ returns-2 : tie.Need-returns-2
 returns-2 c =
     let p = c .before .before .before in
     let s = p .before .before .before in
-    ap₂ _*_ (c .before .top-value .ensures) (c .coefficient .ensures ∙ term-entry (s .pre .0) (found (p .before)))
+    ap₂ _*_ (c .before .append-digits .ensures ∙ rw (zero-mul, zero-add)) (c .coefficient .ensures ∙ term-entry (s .pre .0) (found (p .before)))
     ∙ sym (found (p .before) .by-entries (sym (v-is p) ∙ c .before .before .if1 .left))
 
 mul-result : tie.Need-mul-result
@@ -89,7 +90,7 @@ column-term-spec =
     pivot-at-requires
     free-count-requires
     returns
-    top-value-requires
+    append-digits-requires
     coefficient-requires
     mul-result
     returns-2)

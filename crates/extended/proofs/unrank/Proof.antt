@@ -90,7 +90,7 @@ loop-again c =
     let f = g .before .before in
     let l = f .before .before in
     let a = l .before .before .before .before .before .before .pre .0 in
-    unranking-free a (l .loop .inv) (omega (arith, f .before .loop-test .taken)) _ (f .free-count .ensures) _ (g .coefficient .ensures) (g .before .if1 .taken) (c .before .before .write-digits .ensures)
+    unranking-free a (l .loop .inv) (omega (arith, f .before .loop-test .taken)) _ (f .free-count .ensures) _ (g .coefficient .ensures) (g .before .if1 .taken) (c .before .before .write-digits .ensures .0)
 
 loop-less-2 : tie.Need-loop-less-2 Inv-loop μ-loop
 loop-less-2 c = omega (arith, c .before .before .before .before .before .before .loop-test .taken)

@@ -1,5 +1,5 @@
 -- `ferrers::box_count` meets its contract: beyond the box there is no diagram.
-use mathlib.Core.Path.{refl, sym}
+use mathlib.Core.Path.{sym}
 use native.Mathlib.Omega.{arith}
 use Rattle.ferrers.specs.Box.{box-beyond, box-limit}
 use Rattle.ferrers.specs.Weights.{size-short}
@@ -16,11 +16,14 @@ mul-limit c = let a = c .before .args in omega (arith, size-short (a .n) (omega 
 returns-2 : tie.Need-returns-2
 returns-2 c = sym (box-limit _ _ _ _ (omega arith) (c .if2 .taken))
 
+box-begin-requires : tie.Need-box-begin-requires
+box-begin-requires c κs = search needs
+
 box-entry-requires : tie.Need-box-entry-requires
-box-entry-requires c κs = (c .before .before .pre, c .before .if1 .left, refl, c .if2 .left)
+box-entry-requires c κs = search needs
 
 returns-3 : tie.Need-returns-3
-returns-3 c = c .box-entry .ensures
+returns-3 c = search needs
 
 pub box-count-spec : {M : Type 1} → statement M
-box-count-spec = tie.close (tie.spec returns mul-limit returns-2 box-entry-requires returns-3)
+box-count-spec = tie.close (tie.spec returns mul-limit returns-2 box-begin-requires box-entry-requires returns-3)

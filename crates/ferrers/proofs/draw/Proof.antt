@@ -1,31 +1,30 @@
--- `ferrers::draw` meets its contract: the columns passed are written, and the others are those of the dots, the place and the tableau that are
--- left.
+-- `ferrers::draw` meets its contract: the columns passed are written, and the tableau's digits that are left are those of the others.
 use mathlib.Core.Path.{ap, _∙_, sym}
-use Prim.Native.Nat.{_-_, _<_, _≤_}
+use mathlib.Core.Logic.{⊎-elim}
+use Prim.Native.Nat.{_-_, _≤_}
 use native.Mathlib.Omega.{arith}
 use lib.ListN.{replicate}
-use Rattle.ferrers.specs.Ranked.{diagramShape}
+use Rattle.matrix.specs.Shape.{Shape}
 use Rattle.ferrers.specs.Unranking.{
+  Shaped,
   Unranking,
   unranking-start,
   unranking-end,
   write-asked,
   pivot-asked,
-  free-next,
-  rows-left,
   unranking-free,
   unranking-pivot,
 }
-use Rattle.ferrers.specs.Weights.{Sizes, sizes}
 use Rattle.ferrers.proofs.draw.Statement.{statement}
 use Rattle.ferrers.proofs.draw.Tie as tie
 
+-- for every shape that the vector and the tableau tell
 abbrev Inv-loop : tie.InvT-loop
-Inv-loop m₀ q n k size place tableau dots₀ earlier₀ entries₀ rows₀ columns₀ m dots earlier entries rows columns =
-    Unranking q n k (diagramShape q n k size place tableau) m columns rows dots earlier entries
+Inv-loop m₀ q n k v tableau entries₀ rows₀ c₀ m entries rows c =
+    (c ≤ n) × ((s : Shape) → Shaped q n k v tableau s → Unranking q n k s m c rows entries)
 
 abbrev μ-loop : tie.MeasureT-loop
-μ-loop m₀ q n k size place tableau dots₀ earlier₀ entries₀ rows₀ columns₀ m dots earlier entries rows columns = columns
+μ-loop m₀ q n k v tableau entries₀ rows₀ c₀ m entries rows c = n - c
 
 clear-requires : tie.Need-clear-requires Inv-loop μ-loop
 clear-requires c κs = tt
@@ -33,92 +32,73 @@ clear-requires c κs = tt
 loop-holds : tie.Need-loop-holds Inv-loop μ-loop
 loop-holds c =
     let s = c .before .before .before .before .before in
-    unranking-start _ _ _ _ _ _ _ (s .pre .1) (s .pre .2) (c .before .before .clear .ensures ∙ ap (λ size. replicate size 0) (s .pre .3))
+    (omega arith, λ t a. unranking-start _ (c .before .before .clear .ensures ∙ ap (λ size. replicate size 0) (s .pre .2)) a)
 
-sub-c : tie.Need-sub-c Inv-loop μ-loop
-sub-c c = omega arith
+sub-pivot-at : tie.Need-sub-pivot-at Inv-loop μ-loop
+sub-pivot-at c = omega arith
 
-free-boxes-requires : tie.Need-free-boxes-requires Inv-loop μ-loop
-free-boxes-requires c κs = omega (arith, c .before .loop .inv .columns, c .before .before .before .before .before .before .before .pre .0 .narrow)
+sub-pivot-at-2 : tie.Need-sub-pivot-at-2 Inv-loop μ-loop
+sub-pivot-at-2 c = omega arith
 
--- a free column's dots are among those that are left
-enough : (c : tie.Then1 Inv-loop μ-loop) → c .before .before .before .loop .rows ≤ c .before .before .before .loop .dots
-enough c =
-    let f = c .before in
-    free-next (omega (arith, f .before .loop-test .taken)) _ (f .free-boxes .ensures) (f .before .before .loop .inv) (c .if1 .taken)
-
-sub-power : tie.Need-sub-power Inv-loop μ-loop
-sub-power c = enough c
-
-sized : (c : tie.Then1 Inv-loop μ-loop) →
-    let l = c .before .before .before in let a = l .before .before .before .before .before .before .args in
-    Sizes (a .q) (a .n) (a .k) (l .loop .dots - l .loop .rows)
-sized c =
-    let l = c .before .before .before in
-    sizes (l .loop .dots - l .loop .rows) (l .before .before .before .before .before .before .pre .0) (omega (arith, l .loop .inv .room))
-
-power-requires : tie.Need-power-requires Inv-loop μ-loop
-power-requires c κs = let z = sized c in (z .size, z .short, z .power)
-
-positive : (c : tie.After-power Inv-loop μ-loop) → 0 < c .power .result
-positive c = rw (c .power .ensures) (sized (c .before) .positive)
-
-div-value : tie.Need-div-value Inv-loop μ-loop
-div-value c = positive c
-
-write-digits-requires : tie.Need-write-digits-requires Inv-loop μ-loop
-write-digits-requires c κs =
-    let l = c .before .before .before .before .before in
-    write-asked (l .before .before .before .before .before .before .pre .0) (omega (arith, c .before .before .before .before .loop-test .taken)) (l .loop .inv)
-
-rem-entries : tie.Need-rem-entries Inv-loop μ-loop
-rem-entries c = positive c
-
-sub-dots : tie.Need-sub-dots Inv-loop μ-loop
-sub-dots c = enough (c .before)
-
--- a row is left for the pivot
-row-left : (c : tie.Else1 Inv-loop μ-loop) → 1 ≤ c .before .before .before .loop .rows
-row-left c =
-    let f = c .before in
-    rows-left (omega (arith, f .before .loop-test .taken)) _ (f .free-boxes .ensures) (f .before .before .loop .inv) (c .if1 .left)
-
-sub-write-pivot : tie.Need-sub-write-pivot Inv-loop μ-loop
-sub-write-pivot c = row-left (c .before)
+pivot-at-requires : tie.Need-pivot-at-requires Inv-loop μ-loop
+pivot-at-requires c κs = omega (arith, c .before .before .before .before .before .before .before .pre .0 .narrow)
 
 write-pivot-requires : tie.Need-write-pivot-requires Inv-loop μ-loop
 write-pivot-requires c κs =
-    let f = c .before .before in
-    pivot-asked (omega (arith, f .before .loop-test .taken)) _ (f .free-boxes .ensures) (f .before .before .loop .inv) (c .before .if1 .left)
+    let b = c .before .before in
+    let l = b .before .before in
+    let (s, a) = l .before .before .before .before .before .before .pre .1 in
+    pivot-asked a (b .before .loop-test .taken) (l .loop .inv .1 s a) (sym (b .pivot-at .ensures) ∙ c .before .if1 .taken)
 
-sub-rows : tie.Need-sub-rows Inv-loop μ-loop
-sub-rows c = row-left (c .before .before .before .before)
+add-rows : tie.Need-add-rows Inv-loop μ-loop
+add-rows c =
+    let b = c .before .before .before .before .before in
+    let l = b .before .before in
+    let start = l .before .before .before .before .before .before in
+    let (s, a) = start .pre .1 in
+    let told = sym (b .pivot-at .ensures) ∙ c .before .before .before .before .if1 .taken in
+    omega (arith, pivot-asked a (b .before .loop-test .taken) (l .loop .inv .1 s a) told .1, start .pre .0 .dimension, start .pre .0 .narrow)
+
+write-digits-requires : tie.Need-write-digits-requires Inv-loop μ-loop
+write-digits-requires c κs =
+    let b = c .before .before in
+    let l = b .before .before in
+    let start = l .before .before .before .before .before .before in
+    let (s, a) = start .pre .1 in
+    write-asked a (b .before .loop-test .taken) (l .loop .inv .1 s a) (start .pre .0)
+
+add-c : tie.Need-add-c Inv-loop μ-loop
+add-c c = omega arith
 
 loop-less : tie.Need-loop-less Inv-loop μ-loop
-loop-less c = omega (arith, c .before .before .before .before .before .before .before .loop-test .taken)
+loop-less c = omega arith
 
 loop-again : tie.Need-loop-again Inv-loop μ-loop
 loop-again c =
-    let p = c .before .before .before .before in
-    let f = p .before .before in
-    unranking-free (omega (arith, f .before .loop-test .taken)) _ (f .free-boxes .ensures) (f .before .before .loop .inv) _ _ (p .power .ensures)
-    (p .before .if1 .taken) (c .before .before .write-digits .ensures)
-
-loop-less-2 : tie.Need-loop-less-2 Inv-loop μ-loop
-loop-less-2 c = omega (arith, c .before .before .before .before .before .before .loop-test .taken)
-
-loop-again-2 : tie.Need-loop-again-2 Inv-loop μ-loop
-loop-again-2 c =
-    let e = c .before .before .before .before in
-    let f = e .before in
-    unranking-pivot (omega (arith, f .before .loop-test .taken)) _ (f .free-boxes .ensures) (f .before .before .loop .inv) _ (e .if1 .left)
-    (c .before .before .write-pivot .ensures)
+    let b = c .before in
+    let l = b .before .before in
+    let start = l .before .before .before .before .before .before in (
+      omega arith,
+      λ s a.
+          let u = l .loop .inv .1 s a in
+          let told = sym (b .pivot-at .ensures) in
+          let inside = b .before .loop-test .taken in
+          ⊎-elim
+          (λ w. rw (w .5, w .6, w .7) (unranking-pivot a inside u (told ∙ w .0 .taken) _ (w .2 .ensures)))
+          (λ w.
+          rw (w .5, w .6, w .7) (unranking-free a inside u _ _ (start .pre .0) (told ∙ w .0 .left) (w .2 .ensures .0) (w .2 .ensures .1)))
+          (c .if1 .came),
+    )
 
 same-length : tie.Need-same-length Inv-loop μ-loop
-same-length c = c .before .loop .inv .drawing .sized ∙ sym (c .before .before .before .before .before .before .before .pre .3)
+same-length c =
+    let l = c .before in
+    let start = l .before .before .before .before .before .before in
+    let (s, a) = start .pre .1 in
+    l .loop .inv .1 s a .sized ∙ sym (start .pre .2)
 
 returns : tie.Need-returns Inv-loop μ-loop
-returns c = unranking-end (omega arith) (c .before .loop .inv)
+returns c = λ s a. unranking-end (omega arith) (c .before .loop .inv .1 s a)
 
 pub draw-spec : {M : Type 1} → statement M
 draw-spec =
@@ -128,20 +108,14 @@ draw-spec =
     μ-loop
     clear-requires
     loop-holds
-    sub-c
-    free-boxes-requires
-    sub-power
-    power-requires
-    div-value
-    rem-entries
-    sub-dots
-    write-digits-requires
-    sub-write-pivot
+    sub-pivot-at
+    sub-pivot-at-2
+    pivot-at-requires
     write-pivot-requires
-    sub-rows
+    add-rows
+    write-digits-requires
+    add-c
     loop-less
     loop-again
-    loop-less-2
-    loop-again-2
     same-length
     returns)

@@ -1,7 +1,6 @@
 -- `ferrers::packed` meets its contract: a shift is a division by a power of two.
-use mathlib.Core.Path.{_≡_, ap, _∙_}
+use mathlib.Core.Path.{ap}
 use Prim.Native.Nat.{_*_, _^_, _/_, _%_}
-use native.Mathlib.Omega.{arith}
 use borrow.Author.Needs.{needs}
 use Rattle.ferrers.proofs.packed.Statement.{statement}
 use Rattle.ferrers.proofs.packed.Tie as tie

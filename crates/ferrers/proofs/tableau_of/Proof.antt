@@ -1,16 +1,13 @@
 -- `ferrers::tableau_of` meets its contract: the number read so far, before the tableau of the shape that is left, makes up the whole.
-use mathlib.Core.Path.{_≡_, ap, ap₂, _∙_, sym}
-use mathlib.Core.Bool.{true}
+use mathlib.Core.Path.{_≡_, _∙_, sym}
+use mathlib.Core.Bool.{true, false}
 use mathlib.Core.Logic.{⊎-elim}
-use Prim.Native.Nat.{_+_, _*_, _-_, _^_, _<_, _≤_}
+use Prim.Native.Nat.{_-_, _<_, _≤_}
 use native.Mathlib.Nat.{le-of-lt}
 use native.Mathlib.Omega.{arith}
 use Rattle.field.specs.Small.{size-small}
-use Rattle.matrix.specs.Matrix.{entry}
-use Rattle.matrix.specs.Shape.{topValue}
 use Rattle.ferrers.specs.Parts.{parts}
 use Rattle.ferrers.specs.Reading.{Reading, ReadColumn, reading-start, reading-pivot, reading-free, reading-end}
-use Rattle.ferrers.specs.Weights.{sizes}
 use Rattle.ferrers.proofs.tableau_of.Statement.{statement}
 use Rattle.ferrers.proofs.tableau_of.Tie as tie
 
@@ -32,64 +29,34 @@ pivot-at-requires c κs = omega arith
 above-zero : (c : tie.After-pivot-at Inv-loop μ-loop) → 0 < c .before .before .before .before .args .q
 above-zero c = let s = c .before .before .before .before in le-of-lt (size-small (s .args .q) (s .pre .0 .size) .0)
 
+-- the column, by its bit of the vector
 pivoted : (c : tie.After-pivot-at Inv-loop μ-loop) → c .pivot-at .result ≡ true →
     let l = c .before .before in let a = l .before .before .args in
-    (1 ≤ l .loop .rows) × ReadColumn (a .q) (a .n) (a .k) (a .m .now) (l .loop .c) (l .loop .rows - 1) 0 (l .loop .tableau)
+    (1 ≤ l .loop .rows) × Reading (a .q) (a .n) (a .k) (a .m .now) (l .loop .c - 1) (l .loop .rows - 1) (l .loop .tableau)
 pivoted c t =
     let l = c .before .before in
     let s = l .before .before in
-    reading-pivot (s .args .v) (s .pre .2) (above-zero c) (c .before .loop-test .taken) (l .loop .inv .1) (sym (c .pivot-at .ensures) ∙ t)
+    reading-pivot (s .args .v) (s .pre .2) (c .before .loop-test .taken) (l .loop .inv .1) (sym (c .pivot-at .ensures) ∙ t)
+
+freed : (c : tie.After-pivot-at Inv-loop μ-loop) → c .pivot-at .result ≡ false →
+    let l = c .before .before in let a = l .before .before .args in
+    ReadColumn (a .q) (a .n) (a .k) (a .m .now) (l .loop .c) (l .loop .rows) (l .loop .tableau)
+freed c t =
+    let l = c .before .before in
+    let s = l .before .before in
+    reading-free (s .args .v) (s .pre .2) (c .before .loop-test .taken) (l .loop .inv .1) (above-zero c) (sym (c .pivot-at .ensures) ∙ t)
 
 sub-rows : tie.Need-sub-rows Inv-loop μ-loop
 sub-rows c = pivoted (c .before) (c .if1 .taken) .0
 
--- the column's dots, and the rows that are left after it
-read : (c : tie.Joined1 Inv-loop μ-loop) →
-    let l = c .before .before .before in let a = l .before .before .args in
-    ReadColumn (a .q) (a .n) (a .k) (a .m .now) (l .loop .c) (c .if1 .rows) (c .if1 .dots) (l .loop .tableau)
-read c =
-    let p = c .before in
-    let l = p .before .before in
-    let s = l .before .before in
-    ⊎-elim (λ w. rw (w .1, w .2) (pivoted p (w .0 .taken) .1))
-    (λ w.
-    rw (w .1, w .2)
-    (reading-free (s .args .v) (s .pre .2) (above-zero p) (p .before .loop-test .taken) (l .loop .inv .1) (sym (p .pivot-at .ensures) ∙ w .0 .left)))
-    (c .if1 .came)
+sub-append-digits : tie.Need-sub-append-digits Inv-loop μ-loop
+sub-append-digits c = omega arith
 
-power-requires : tie.Need-power-requires Inv-loop μ-loop
-power-requires c κs =
-    let z = sizes (c .if1 .dots) (c .before .before .before .before .before .pre .0) (read c .room) in
-    (z .size, z .short, z .power)
-
-mul-tableau : tie.Need-mul-tableau Inv-loop μ-loop
-mul-tableau c =
-    let l = c .before .before .before .before in
-    let s = l .before .before in
-    omega (arith, ap (λ p. l .loop .tableau * p) (c .power .ensures), read (c .before) .fits, parts (s .pre .0) (s .pre .1) .tableau)
-
-sub-top-value : tie.Need-sub-top-value Inv-loop μ-loop
-sub-top-value c = omega arith
-
-top-value-requires : tie.Need-top-value-requires Inv-loop μ-loop
-top-value-requires c κs =
-    let s = c .before .before .before .before .before .before in
-    let r = read (c .before) in
-    (omega arith, r .long, omega (arith, r .few, s .pre .0 .dimension, s .pre .0 .narrow), size-small (s .args .q) (s .pre .0 .size) .1, r .below)
-
-stepped : (c : tie.After-top-value Inv-loop μ-loop) →
-    let l = c .before .before .before .before .before in let a = l .before .before .args in
-    l .loop .tableau * c .before .power .result + c .top-value .result
-    ≡ l .loop .tableau * a .q ^ c .before .before .if1 .dots
-    + topValue (a .q) (entry (a .n) (a .m .now)) (c .before .before .if1 .dots) (l .loop .c - 1)
-stepped c =
-    let l = c .before .before .before .before .before in
-    ap₂ (λ p x. l .loop .tableau * p + x) (c .before .power .ensures) (c .top-value .ensures)
-
-add-tableau : tie.Need-add-tableau Inv-loop μ-loop
-add-tableau c =
-    let s = c .before .before .before .before .before .before .before in
-    omega (arith, stepped c, read (c .before .before) .fits, parts (s .pre .0) (s .pre .1) .tableau)
+append-digits-requires : tie.Need-append-digits-requires Inv-loop μ-loop
+append-digits-requires c κs =
+    let s = c .before .before .before .before .before in
+    let r = freed (c .before) (c .if1 .left) in
+    (above-zero (c .before), omega arith, r .long, omega (arith, r .fits, parts (s .pre .0) (s .pre .1) .tableau))
 
 sub-c : tie.Need-sub-c Inv-loop μ-loop
 sub-c c = omega arith
@@ -98,7 +65,11 @@ loop-less : tie.Need-loop-less Inv-loop μ-loop
 loop-less c = omega arith
 
 loop-again : tie.Need-loop-again Inv-loop μ-loop
-loop-again c = (omega arith, rw (stepped c) (read (c .before .before) .next))
+loop-again c = (
+  omega arith,
+  ⊎-elim (λ w. rw (w .1, w .2) (pivoted (c .before) (w .0 .taken) .1))
+      (λ w. rw (w .2, w .3, w .1 .ensures) (freed (c .before) (w .0 .left) .next)) (c .if1 .came),
+)
 
 returns : tie.Need-returns Inv-loop μ-loop
 returns c = reading-end (omega arith) (c .before .loop .inv .1)
@@ -113,11 +84,8 @@ tableau-of-spec =
     sub-pivot-at
     pivot-at-requires
     sub-rows
-    power-requires
-    mul-tableau
-    sub-top-value
-    top-value-requires
-    add-tableau
+    sub-append-digits
+    append-digits-requires
     sub-c
     loop-less
     loop-again

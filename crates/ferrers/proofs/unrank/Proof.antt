@@ -1,8 +1,13 @@
 -- `ferrers::unrank` meets its contract: the size is found, and the rest is the place of the diagram and the tableau, in base q^size.
-use mathlib.Core.Path.{_∙_}
-use Prim.Native.Nat.{_<_}
+use mathlib.Core.Path.{_∙_, subst}
+use Prim.Native.Nat.{_/_, _%_, _<_}
+use native.Mathlib.Nat.{mod-lt}
+use native.Mathlib.Omega.{arith}
 use borrow.Author.Needs.{needs}
+use Rattle.field.specs.Small.{size-small}
+use Rattle.ferrers.specs.Ranked.{diagramShape}
 use Rattle.ferrers.specs.Searching.{found-place, found-drawn}
+use Rattle.ferrers.specs.Unranking.{Shaped, diagram-shaped}
 use Rattle.ferrers.specs.Weights.{Sizes, sizes}
 use Rattle.ferrers.proofs.unrank.Statement.{statement}
 use Rattle.ferrers.proofs.unrank.Tie as tie
@@ -19,26 +24,42 @@ power-requires c κs = let z = sized c in (z .size, z .short, z .power)
 positive : (c : tie.After-power) → 0 < c .power .result
 positive c = rw (c .power .ensures) (sized (c .before) .positive)
 
-div-draw : tie.Need-div-draw
-div-draw c = positive (c .before .before)
+div-vector-at : tie.Need-div-vector-at
+div-vector-at c = positive (c .before)
+
+vector-at-requires : tie.Need-vector-at-requires
+vector-at-requires c κs =
+    let p = c .before in
+    (p .before .before .before .pre .0 .narrow, found-place _ (p .power .ensures) (p .before .find-size .ensures) (positive p))
 
 rem-draw : tie.Need-rem-draw
-rem-draw c = positive (c .before .before .before)
+rem-draw c = positive (c .before .before .before .before)
+
+shaped : (c : tie.After-vector-at) →
+    let p = c .before .before in let found = p .before .find-size .result in let a = p .before .before .before .args in
+    Shaped (a .q) (a .n) (a .k) (c .vector-at .result) (found .rest % p .power .result)
+    (diagramShape (a .q) (a .n) (a .k) (found .size) (found .rest / p .power .result) (found .rest % p .power .result))
+shaped c =
+    let p = c .before .before in
+    let s = p .before .before .before in
+    let found = p .before .find-size in
+    let (big, small) = size-small (s .args .q) (s .pre .0 .size) in
+    diagram-shaped _ _ _ (found .result .size) _ _ _ (omega arith) (found-place _ (p .power .ensures) (found .ensures) (positive p))
+    (subst (λ y. found .result .rest % p .power .result < y) (p .power .ensures) (mod-lt (found .result .rest) (positive p))) (c .vector-at .ensures)
 
 draw-requires : tie.Need-draw-requires
 draw-requires c κs =
-    let p = c .before .before .before in
-    let found = p .before .find-size .ensures in
-    let s = p .before .before .before in
-    (s .pre .0, found .within, found-place _ (p .power .ensures) found (positive p), s .pre .2)
+    let s = c .before .before .before .before .before .before .before in
+    (s .pre .0, (_, shaped (c .before .before)), s .pre .2)
 
 same-length : tie.Need-same-length
 same-length c = search needs
 
 returns : tie.Need-returns
 returns c =
-    let p = c .before .before .before .before .before .before in
-    c .before .before .draw .ensures ∙ found-drawn _ (p .power .ensures) (p .before .find-size .ensures)
+    let v = c .before .before .before .before .before in
+    let p = v .before .before in
+    c .before .before .draw .ensures _ (shaped v) ∙ found-drawn _ (p .power .ensures) (p .before .find-size .ensures)
 
 pub unrank-spec : {M : Type 1} → statement M
 unrank-spec =
@@ -46,7 +67,8 @@ unrank-spec =
     (tie.spec
     find-size-requires
     power-requires
-    div-draw
+    div-vector-at
+    vector-at-requires
     rem-draw
     draw-requires
     same-length

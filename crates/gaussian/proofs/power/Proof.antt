@@ -1,12 +1,11 @@
 -- `gaussian::power` meets its contract: a shift for the powers of 2, and the lists of the others, which a power within 64 bits never leaves.
 use mathlib.Core.Path.{_≡_, ap, subst, _∙_, sym}
-use Prim.Native.Nat.{ℕ, _+_, _*_, _^_, _<_, _≤_, _%_}
+use Prim.Native.Nat.{ℕ, _^_, _<_, _≤_}
 use native.Mathlib.Nat.{one-mul}
 use native.Mathlib.Omega.{arith}
 use lib.ListN.{getD}
-use lib.Pow.{pow-mono, shl-exact}
+use lib.Pow.{shl-exact}
 use lib.Dec.{lit<}
-use Rattle.basics.specs.Order.{le-or-lt}
 use Rattle.field.specs.Small.{last-size}
 use Rattle.gaussian.specs.Gaussian.{greatestCount}
 use Rattle.gaussian.specs.Powers.{powers, power-at, exponent-below}

@@ -1,12 +1,11 @@
 -- `matrix::entries_below` meets its contract: the entries passed are below q exactly where the greatest of them is.
 use mathlib.Core.Path.{_≡_, sym, _∙_, ap}
 use mathlib.Core.Logic.{⊎-elim, inl, inr}
-use Prim.Native.Nat.{_+_, _-_, _≤_, _<_}
+use Prim.Native.Nat.{_-_, _≤_, _<_}
 use native.Mathlib.Numerals.{add-one}
 use native.Mathlib.Omega.{arith}
 use lib.Dec.{ltb}
 use lib.ListN.{length, getD}
-use Rattle.basics.specs.All.{allBelow}
 use Rattle.matrix.specs.Matrix.{entriesBelow}
 use Rattle.matrix.specs.Decided.{belowTo, below-start, below-more, below-none}
 use Rattle.matrix.proofs.entries_below.Statement.{statement}

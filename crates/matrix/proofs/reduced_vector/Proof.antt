@@ -1,5 +1,5 @@
 -- `matrix::reduced_vector` meets its contract: the rows passed hold the test and add up to the vector, and p is the next row's pivot.
-use mathlib.Core.Path.{_≡_, _∙_, ap, sym, subst}
+use mathlib.Core.Path.{_∙_, ap, sym, subst}
 use mathlib.Core.Bool.{false}
 use Prim.Native.Nat.{_-_}
 use native.Mathlib.Numerals.{add-one}

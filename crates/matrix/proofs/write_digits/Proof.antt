@@ -1,10 +1,10 @@
 -- `matrix::write_digits` meets its contract: the rows from i on are written, and `rest` holds the digits that are left.
-use mathlib.Core.Path.{_≡_, sym, _∙_}
+use mathlib.Core.Path.{_≡_, ap, sym, _∙_}
 use Prim.Native.Nat.{suc, _-_, _*_, _+_, _^_, _/_, _≤_}
 use native.Mathlib.Omega.{arith}
 use lib.ListN.{length}
 use Rattle.basics.specs.Flat.{row-fits}
-use Rattle.matrix.specs.Written.{digitAt, WrittenFrom, written-start, written-all, written-step, Step, step-digit, rest-whole}
+use Rattle.matrix.specs.Written.{digitAt, WrittenFrom, written-start, written-all, written-step, step-digit, rest-whole}
 use Rattle.matrix.proofs.write_digits.Statement.{statement}
 use Rattle.matrix.proofs.write_digits.Tie as tie
 
@@ -69,7 +69,11 @@ same-length : tie.Need-same-length Inv-loop μ-loop
 same-length c = c .before .loop .inv .2 .sized
 
 returns : tie.Need-returns Inv-loop μ-loop
-returns c = written-all _ _ _ _ _ _ _ (omega arith) (c .before .loop .inv .2)
+returns c =
+    let l = c .before in
+    let a = l .before .before .args in
+    let all : a .rows - l .loop .i ≡ a .rows = omega arith in
+    (written-all _ _ _ _ _ _ _ (omega arith) (l .loop .inv .2), l .loop .inv .1 ∙ ap (λ e. a .x / a .q ^ e) all)
 
 pub write-digits-spec : {M : Type 1} → statement M
 write-digits-spec =

@@ -1,15 +1,24 @@
 -- `reduction::divide` meets its contract: the inverse of the entry at the lead scales it.
 use mathlib.Core.Path.{_≡_, ap, _∙_}
-use mathlib.Core.List.{List}
-use Prim.Native.Nat.{ℕ}
 use lib.ListN.{getD}
+use Rattle.field.specs.Decide.{laws}
 use Rattle.field.specs.Field.{invert}
 use Rattle.field.specs.InField.{in-field}
 use Rattle.linear.specs.Eliminate.{leadOf, monic}
+use Rattle.linear.specs.Entries.{row-below}
 use Rattle.reduction.specs.Steps.{multiple}
 use borrow.Author.Needs.{needs}
 use Rattle.reduction.proofs.divide.Statement.{statement}
 use Rattle.reduction.proofs.divide.Tie as tie
+
+-- the factor is the inverse of the entry at the lead
+factor : (c : tie.After-invert) →
+    let a = c .before .before .before .args in
+    c .invert .result ≡ invert (a .q) (getD (a .v .now) (leadOf (a .n) (a .v .now)) 0)
+factor c =
+    let b = c .before .before .before in
+    let a = b .args in
+    c .invert .ensures ∙ in-field (a .q) _ (b .pre .0) ∙ ap (λ x. invert (a .q) (getD (a .v .now) x 0)) (b .pre .2)
 
 slice-read-pivot : tie.Need-slice-read-pivot
 slice-read-pivot c = search needs
@@ -18,7 +27,11 @@ invert-requires : tie.Need-invert-requires
 invert-requires c κs = search needs
 
 scale-requires : tie.Need-scale-requires
-scale-requires c κs = search needs
+scale-requires c κs =
+    let b = c .before .before .before .before in
+    let a = b .args in
+    let law = laws (a .q) (b .pre .0) in
+    (b .pre .0, rw (factor (c .before)) (law .invert-below _ (row-below (a .q) law (a .n) (b .pre .1) _)), b .pre .1)
 
 same-length : tie.Need-same-length
 same-length c = search needs
@@ -26,15 +39,8 @@ same-length c = search needs
 returns : tie.Need-returns
 unfolding monic multiple
 returns c =
-    let b = c .before .before .before .before .before .before .before in
-    let a = b .args in
-    let v : List ℕ = a .v .now in
-    let factor : c .before .before .before .before .invert .result ≡ invert (a .q) (getD v (leadOf (a .n) v) 0) =
-    c .before .before .before .before .invert .ensures
-    ∙ in-field (a .q) _ (b .pre .0)
-    ∙ ap (λ x. invert (a .q) (getD v x 0)) (b .pre .2)
-    in
-    c .before .before .scale .ensures ∙ ap (λ x. multiple (a .q) (a .n) x v) factor
+    let a = c .before .before .before .before .before .before .before .args in
+    c .before .before .scale .ensures ∙ ap (λ x. multiple (a .q) (a .n) x (a .v .now)) (factor (c .before .before .before .before))
 
 pub divide-spec : {M : Type 1} → statement M
 divide-spec =

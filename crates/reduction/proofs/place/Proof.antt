@@ -1,75 +1,86 @@
--- `reduction::place` meets its contract: the rows above are cleared, the others moved down, and w goes between them.
-use mathlib.Core.Path.{ap, _∙_}
-use mathlib.Core.List.{List, _++_}
-use Prim.Native.Nat.{ℕ, _*_, _≤_}
+-- `reduction::place` meets its contract: the rows above are cleared, then row d is raised to its place, and so is its lead.
+use mathlib.Core.Path.{ap, ap₂, sym, _∙_}
+use mathlib.Core.List.{List, _∷_, _++_}
+use Prim.Native.Nat.{ℕ, _+_, _*_, _≤_}
 use native.Mathlib.Omega.{arith}
-use lib.ListN.{length, drop}
-use lib.Seq.{paste}
+use lib.ListN.{take, drop, length-set}
+use Rattle.field.specs.Decide.{laws}
 use Rattle.linear.specs.Span.{rowsOf}
 use Rattle.linear.specs.Eliminate.{join}
-use Rattle.reduction.specs.Steps.{cleared, movedDown}
-use Rattle.reduction.specs.Placing.{place-within, place-bytes}
+use Rattle.linear.specs.Flat.{rows-length}
+use Rattle.reduction.specs.Steps.{part, leads, above, cleared, raised}
+use Rattle.reduction.specs.Placing.{above-le, place-bytes}
+use Rattle.reduction.specs.Leading.{leads-placed, raised-leads}
 use borrow.Author.Needs.{needs}
 use Rattle.reduction.proofs.place.Statement.{statement}
 use Rattle.reduction.proofs.place.Tie as tie
 
 clear-above-requires : tie.Need-clear-above-requires
-clear-above-requires c κs = search needs
-
--- the place where w goes is within the rows
-inside : (c : tie.After-clear-above) →
-    let a = c .before .before .before .before .args in
-    c .clear-above .result * a .n ≤ a .d * a .n
-inside c =
+clear-above-requires c κs =
     let b = c .before .before .before .before in
-    let a = b .args in
-    rw (c .clear-above .ensures .0) (place-within (a .q) (a .n) (a .d) (a .rows .now) (a .w .now) (b .pre .3 .0) (b .pre .1))
+    (b .pre .0, (omega (arith, b .pre .1 .0), b .pre .1 .1, b .pre .1 .2, b .pre .1 .4))
 
-mul-start : tie.Need-mul-start
-mul-start c = omega (arith, inside (c .before .before))
+-- the place where the row goes is among the rows
+inside : (c : tie.After-clear-above) → c .clear-above .result ≤ c .before .before .before .before .before .args .d
+inside c =
+    let a = c .before .before .before .before .before .args in
+    omega
+    (arith, c .clear-above .ensures .0, above-le (a .q) (a .n) (part (a .n) (a .d * a .n) (a .m .now)) (rowsOf (a .n) (a .d) (a .m .now)), rows-length (a .n) (a .d) (a .m .now))
 
-mul-end : tie.Need-mul-end
-mul-end c = search needs
-
-move-down-requires : tie.Need-move-down-requires
-move-down-requires c κs =
+raise-requires : tie.Need-raise-requires
+raise-requires c κs =
     let k = c .before .before .before in
-    (omega (arith, inside k), omega (arith, k .clear-above .kept .1 .1 .1 .0, k .before .before .before .before .pre .1))
+    (inside k, omega (arith, k .clear-above .kept .1 .1 .1 .1 .0, k .before .before .before .before .before .pre .0 .1))
 
-copy-requires : tie.Need-copy-requires
-copy-requires c κs =
-    let s = c .before .before .before in
-    let k = s .before .before .before .before in
-    let b = k .before .before .before .before in
-    omega (arith, inside k, k .clear-above .kept .1 .1 .1 .0, s .move-down .kept .0, b .pre .1, b .pre .3 .0)
+cast-pivots : tie.Need-cast-pivots
+cast-pivots c = search needs
+
+slice-write-pivots : tie.Need-slice-write-pivots
+slice-write-pivots c = search needs
+
+raise-requires-2 : tie.Need-raise-requires-2
+raise-requires-2 c κs =
+    let k = c .before .before .before .before .before .before .before in
+    let b = k .before .before .before .before .before in
+    (inside k, omega (arith, length-set (b .args .pivots .now) (b .args .d) (b .args .p), b .pre .1 .0))
 
 same-length : tie.Need-same-length
 same-length c = search needs
 
+same-length-2 : tie.Need-same-length-2
+same-length-2 c =
+    let b = c .before .before .before .before .before .before .before .before .before .before .before .before .before .before .before in
+    c .before .before .raise2 .kept .1 .1 .1 .0 ∙ length-set (b .args .pivots .now) (b .args .d) (b .args .p)
+
 returns : tie.Need-returns
 returns c =
-    let t = c .before .before in
-    let s = t .before .before .before .before in
-    let k = s .before .before .before .before in
-    let b = k .before .before .before .before in
+    let k = c .before .before .before .before .before .before .before .before .before .before in
+    let r = c .before .before .before .before .before .before in
+    let b = k .before .before .before .before .before in
     let a = b .args in
-    let z : ℕ = a .d * a .n in
-    let w : List ℕ = a .w .now in
-    let start : ℕ = k .clear-above .result * a .n in
-    let front : List ℕ = join (cleared (a .q) (a .n) (rowsOf (a .n) (a .d) (a .rows .now)) w) in
-    t .copy .ensures
-    ∙ ap (λ x. paste x start w (length w)) (s .move-down .ensures ∙ ap (movedDown (a .n) start z) (k .clear-above .ensures .1))
-    ∙ ap (λ x. paste (movedDown (a .n) (x * a .n) z (front ++ drop (x * a .n) (a .rows .now))) (x * a .n) w (length w)) (k .clear-above .ensures .0)
-    ∙ place-bytes (a .q) (a .n) (a .d) (a .rows .now) w (b .pre .3 .0) (b .pre .1)
+    let rows : List (List ℕ) = rowsOf (a .n) (a .d) (a .m .now) in
+    let w : List ℕ = part (a .n) (a .d * a .n) (a .m .now) in
+    let front : List ℕ = join (cleared (a .q) (a .n) rows w) in (
+      r .raise .ensures
+          ∙ ap (raised (a .n) (a .d * a .n) (k .clear-above .result * a .n)) (k .clear-above .ensures .1)
+          ∙ ap (λ x. raised (a .n) (a .d * a .n) (x * a .n) (front ++ drop (x * a .n) (a .m .now))) (k .clear-above .ensures .0)
+          ∙ place-bytes (a .q) (a .n) (a .d) (a .m .now),
+      ap (take (a .d + 1)) (c .before .before .raise2 .ensures)
+          ∙ raised-leads (a .d) (k .clear-above .result) (a .p) (a .pivots .now) (inside k) (b .pre .1 .0)
+          ∙ ap₂ (λ x y. take x y ++ (a .p ∷ drop x y)) (k .clear-above .ensures .0) (b .pre .1 .1)
+          ∙ ap (λ x. take (above (a .n) rows w) (leads (a .n) rows) ++ (x ∷ drop (above (a .n) rows w) (leads (a .n) rows))) (b .pre .1 .4)
+          ∙ sym (leads-placed (a .q) (laws (a .q) (b .pre .0 .0)) (a .n) w (b .pre .0 .3) (b .pre .0 .2)),
+    )
 
 pub place-spec : {M : Type 1} → statement M
 place-spec =
     tie.close
     (tie.spec
     clear-above-requires
-    mul-start
-    mul-end
-    move-down-requires
-    copy-requires
+    raise-requires
+    cast-pivots
+    slice-write-pivots
+    raise-requires-2
     same-length
+    same-length-2
     returns)

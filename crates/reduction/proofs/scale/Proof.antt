@@ -6,8 +6,10 @@ use native.Mathlib.Omega.{arith}
 use lib.ListN.{length, getD, drop, set, length-set}
 use Rattle.basics.specs.Table.{tabulate}
 use Rattle.basics.specs.TableWrite.{write-none, write-read, write-more, write-all}
-use Rattle.field.specs.Field.{multiply}
-use Rattle.field.specs.InField.{in-field}
+use Rattle.field.specs.Decide.{laws}
+use Rattle.field.specs.Field.{add, multiply}
+use Rattle.linear.specs.Entries.{row-below}
+use Rattle.reduction.specs.Monic.{only-multiple}
 use Rattle.reduction.specs.Steps.{multiple, multipleAt}
 use Rattle.reduction.proofs.scale.Statement.{statement}
 use Rattle.reduction.proofs.scale.Tie as tie
@@ -19,13 +21,26 @@ abbrev μ-loop : tie.MeasureT-loop
 μ-loop q n c v₀ j₀ v j = n - j
 
 loop-holds : tie.Need-loop-holds Inv-loop μ-loop
-loop-holds c = (omega arith, c .before .pre .1, write-none _ _)
+loop-holds c = (omega arith, c .before .pre .2 .0, write-none _ _)
 
-slice-read-multiply : tie.Need-slice-read-multiply Inv-loop μ-loop
-slice-read-multiply c = omega arith
+-- the entry that the loop has come to is still the row's own
+old : (c : tie.In-loop Inv-loop μ-loop) →
+    let l = c .before in
+    getD (l .loop .v) (l .loop .j) 0 ≡ getD (l .before .before .args .v .now) (l .loop .j) 0
+old c =
+    let l = c .before in
+    let a = l .before .before .args in
+    ap (λ x. getD x (l .loop .j) 0) (l .loop .inv .2) ∙ write-read (multipleAt (a .q) (a .c) (a .v .now)) (a .v .now) (l .loop .j) (omega arith)
 
-multiply-requires : tie.Need-multiply-requires Inv-loop μ-loop
-multiply-requires c κs = tt
+slice-read-add-product : tie.Need-slice-read-add-product Inv-loop μ-loop
+slice-read-add-product c = omega arith
+
+add-product-requires : tie.Need-add-product-requires Inv-loop μ-loop
+add-product-requires c κs =
+    let b = c .before .before .before .before in
+    let a = b .args in
+    let entry = row-below (a .q) (laws (a .q) (b .pre .0)) (a .n) (b .pre .2) (c .before .before .loop .j) in
+    (b .pre .0, omega (arith, b .pre .1), b .pre .1, rw (old (c .before)) entry)
 
 slice-write-v : tie.Need-slice-write-v Inv-loop μ-loop
 slice-write-v c = omega arith
@@ -39,16 +54,20 @@ loop-less c = omega arith
 loop-again : tie.Need-loop-again Inv-loop μ-loop
 loop-again c =
     let l = c .before .before .before in
-    let a = l .before .before .args in
+    let b = l .before .before in
+    let a = b .args in
+    let law = laws (a .q) (b .pre .0) in
     let f = multipleAt (a .q) (a .c) (a .v .now) in
     let h : l .loop .j < length (a .v .now) = omega arith in
-    let old : getD (l .loop .v) (l .loop .j) 0 ≡ getD (a .v .now) (l .loop .j) 0 =
-    ap (λ x. getD x (l .loop .j) 0) (l .loop .inv .2) ∙ write-read f (a .v .now) (l .loop .j) h
-    in
-    let new : c .multiply .result ≡ f (l .loop .j) =
-    c .multiply .ensures ∙ in-field (a .q) _ (l .before .before .pre .0) ∙ ap (multiply (a .q) (a .c)) old
-    in
-    (omega arith, simp length-set (l .loop .inv .1), ap₂ (λ x y. set x (l .loop .j) y) (l .loop .inv .2) new ∙ write-more f (a .v .now) (l .loop .j) h)
+    let new : c .add-product .result ≡ f (l .loop .j) =
+    c .add-product .ensures
+    ∙ ap (λ x. add (a .q) 0 (multiply (a .q) (a .c) x)) (old (c .before .before))
+    ∙ only-multiple (a .q) law (a .c) _ (b .pre .1) (row-below (a .q) law (a .n) (b .pre .2) (l .loop .j))
+    in (
+      omega arith,
+      simp length-set (l .loop .inv .1),
+      ap₂ (λ x y. set x (l .loop .j) y) (l .loop .inv .2) new ∙ write-more f (a .v .now) (l .loop .j) h,
+    )
 
 same-length : tie.Need-same-length Inv-loop μ-loop
 same-length c = omega arith
@@ -68,8 +87,8 @@ scale-spec =
     Inv-loop
     μ-loop
     loop-holds
-    slice-read-multiply
-    multiply-requires
+    slice-read-add-product
+    add-product-requires
     slice-write-v
     add-j
     loop-less

@@ -1,16 +1,17 @@
 -- `pandrwyg::receive::reduced_answer` meets its contract: the reduced rows stand first in the array, and are a reduced matrix.
 use mathlib.Core.Path.{_≡_, ap, ap₂, _∙_, sym, subst}
 use mathlib.Core.List.{List, _++_}
-use Prim.Native.Nat.{ℕ, min, _*_, _≤_}
+use Prim.Native.Nat.{ℕ, min, _+_, _*_, _-_, _≤_}
 use native.Mathlib.Nat.{min-eq-left, mul-le-mul}
 use native.Mathlib.Omega.{arith}
-use lib.ListN.{length, take, drop, replicate, length-take, length-drop, length-append, length-replicate}
+use lib.ListN.{length, take, drop, replicate, length-take, length-drop, length-append, length-replicate, replicate-append-replicate}
+use lib.Seq.{take-at}
 use Rattle.matrix.specs.Decided.{entries-below}
-use Rattle.matrix.specs.Matrix.{Reduced}
+use Rattle.matrix.specs.Matrix.{pivot, Reduced}
 use Rattle.linear.specs.Span.{rowsOf}
 use Rattle.linear.specs.Eliminate.{reducedOf}
 use Rattle.pandrwyg.specs.Reception.{spaceAnswer}
-use Rattle.pandrwyg.specs.Front.{received-reduced, received-fits, received-front}
+use Rattle.pandrwyg.specs.Front.{received-reduced, received-most, received-fits, received-front, received-pivots}
 use borrow.Author.Needs.{needs}
 use Rattle.pandrwyg.proofs.receive.reduced_answer.Statement.{statement}
 use Rattle.pandrwyg.proofs.receive.reduced_answer.Tie as tie
@@ -21,6 +22,13 @@ zeros n = replicate n 0
 part : {size : ℕ} (n : ℕ) → size ≤ n → length (take size (zeros n)) ≡ size
 unfolding zeros
 part {size} n h = length-take size (zeros n) ∙ ap (min size) (length-replicate n 0) ∙ min-eq-left h
+
+front : {size : ℕ} (n : ℕ) → size ≤ n → take size (zeros n) ≡ zeros size
+unfolding zeros
+front {size} n h =
+    let e : size + (n - size) ≡ n = omega arith in
+    ap (λ x. take size (replicate x 0)) (sym e) ∙ ap (take size) (sym (replicate-append-replicate size (n - size) 0))
+    ∙ take-at (zeros size) (zeros (n - size)) size (length-replicate size 0)
 
 square : {n : ℕ} → n ≤ 16 → n * n ≤ 256
 square {n} h = mul-le-mul {n₁ = n} {m₁ = n} {n₂ = 16} {m₂ = 16} h h
@@ -35,19 +43,15 @@ slice-aggregate-reduce : tie.Need-slice-aggregate-reduce
 unfolding zeros
 slice-aggregate-reduce c = sym (part 256 (square (c .before .before .pre .0 .settings .narrow)))
 
-array-borrow-prefix-row : tie.Need-array-borrow-prefix-row
-array-borrow-prefix-row c = search needs
-
 slice-aggregate-reduce-2 : tie.Need-slice-aggregate-reduce-2
-unfolding zeros
-slice-aggregate-reduce-2 c = sym (part 16 (c .before .before .before .pre .0 .settings .narrow))
+slice-aggregate-reduce-2 c = search needs
 
 reduce-requires : tie.Need-reduce-requires
 unfolding zeros
 reduce-requires c κs =
     let p = c .before .before .before .pre in
     let h = p .0 .settings .narrow in
-    ((p .0 .settings .size, p .2, entries-below _ _ (p .3)), (part 256 (square h), part 16 h))
+    ((p .0 .settings .size, p .2, entries-below _ _ (p .3)), (front 256 (square h), h, omega (arith, h)))
 
 -- what the reduction leaves: its rows fit, and stand first in the array
 module _ (c : tie.After-reduce) where
@@ -67,7 +71,7 @@ module _ (c : tie.After-reduce) where
   array-front =
       let s = c .before .before .before .before in
       received-front (s .args .q) (s .args .n) (s .args .row-count) (s .args .rows .now) (s .pre .0 .settings .size) (s .pre .2) (s .pre .3)
-      (c .reduce .result) (c .reduce .last .1 .1 .1 .1 .0) (drop (s .args .n * s .args .n) (zeros 256)) (c .reduce .ensures .0) (c .reduce .ensures .1)
+      (c .reduce .result) (c .reduce .last .1 .1 .1 .1 .0) (drop (s .args .n * s .args .n) (zeros 256)) (c .reduce .ensures .0) (c .reduce .ensures .1 .0)
 
   array-length : length array ≡ 256
   unfolding array zeros
@@ -86,25 +90,57 @@ module _ (c : tie.After-reduce) where
       subst (Reduced (s .args .q) (s .args .n) (c .reduce .result)) (sym array-front)
       (subst (λ d. Reduced (s .args .q) (s .args .n) d (reducedOf (s .args .q) (s .args .n) (rowsOf (s .args .n) (s .args .row-count) (s .args .rows .now)))) (sym (c .reduce .ensures .0)) r)
 
-mul-matrix-2 : tie.Need-mul-matrix-2
-mul-matrix-2 c = omega (arith, rows-fit (c .before .before))
+mul-size : tie.Need-mul-size
+mul-size c = omega (arith, rows-fit (c .before .before))
 
 array-share-prefix-matrix : tie.Need-array-share-prefix-matrix
 unfolding array zeros
 array-share-prefix-matrix c = omega (arith, rows-fit (c .before .before), array-length (c .before .before))
 
+slice-aggregate-vector-of : tie.Need-slice-aggregate-vector-of
+unfolding array zeros
+slice-aggregate-vector-of c = sym (front-reduced (c .before .before .before) .size)
+
+slice-aggregate-vector-of-2 : tie.Need-slice-aggregate-vector-of-2
+slice-aggregate-vector-of-2 c = search needs
+
+vector-of-requires : tie.Need-vector-of-requires
+unfolding array zeros
+vector-of-requires c κs =
+    let r = c .before .before .before .before in
+    let s = r .before .before .before .before in
+    let a = s .args in
+    let h = s .pre .0 .settings .narrow in
+    let most = received-most (a .q) (a .n) (a .row-count) (a .rows .now) (s .pre .0 .settings .size) (s .pre .2) (s .pre .3) (r .reduce .result) (r .reduce .ensures .0) in (
+      h,
+      (_, front-reduced r),
+      omega (arith, h, most, r .reduce .kept .1 .1 .1 .1 .1 .0),
+      λ i l.
+          received-pivots (a .q) (a .n) (a .row-count) (a .rows .now) (s .pre .0 .settings .size) (s .pre .2) (s .pre .3) (r .reduce .result) _
+          (r .reduce .ensures .0) (r .reduce .ensures .1 .1) i l
+          ∙ ap (λ m. pivot (a .n) m i) (sym (array-front r)),
+    )
+
+array-share-prefix-matrix-2 : tie.Need-array-share-prefix-matrix-2
+unfolding array zeros
+array-share-prefix-matrix-2 c =
+    let r = c .before .before .before .before .before in
+    omega (arith, rows-fit r, array-length r)
+
 slice-aggregate-space-answer : tie.Need-slice-aggregate-space-answer
 unfolding array zeros
-slice-aggregate-space-answer c = sym (front-reduced (c .before .before .before) .size)
+slice-aggregate-space-answer c = sym (front-reduced (c .before .before .before .before .before .before) .size)
 
 space-answer-requires : tie.Need-space-answer-requires
 unfolding array zeros
-space-answer-requires c κs = (c .before .before .before .before .before .before .before .pre .0 .settings, front-reduced (c .before .before .before))
+space-answer-requires c κs =
+    let r = c .before .before .before .before .before .before in
+    (r .before .before .before .before .pre .0 .settings, front-reduced r, c .before .vector-of .ensures)
 
 returns : tie.Need-returns
 unfolding array zeros
 returns c =
-    let r = c .before .before .before .before in
+    let r = c .before .before .before .before .before .before .before in
     let a = r .before .before .before .before .args in
     c .space-answer .ensures ∙ ap₂ (spaceAnswer (a .q) (a .n) (a .k) (a .t)) (r .reduce .ensures .0) (array-front r)
 
@@ -115,11 +151,14 @@ reduced-answer-spec =
     mul-matrix
     array-borrow-prefix-matrix
     slice-aggregate-reduce
-    array-borrow-prefix-row
     slice-aggregate-reduce-2
     reduce-requires
-    mul-matrix-2
+    mul-size
     array-share-prefix-matrix
+    slice-aggregate-vector-of
+    slice-aggregate-vector-of-2
+    vector-of-requires
+    array-share-prefix-matrix-2
     slice-aggregate-space-answer
     space-answer-requires
     returns)

@@ -1,10 +1,9 @@
 -- `text::append::numeral_of` meets its contract: the numeral of what is left of x, with the digits made so far after it, is that of x.
 use mathlib.Core.Path.{_≡_, refl, ap, _∙_, sym}
-use mathlib.Core.List.{[], _∷_, _++_, append-nil}
-use Prim.Native.Nat.{_-_, _^_, _/_, _%_, _≤_, _<_}
+use mathlib.Core.List.{[], _++_, append-nil}
+use Prim.Native.Nat.{_^_, _/_, _%_, _≤_, _<_}
 use native.Mathlib.Omega.{arith}
-use borrow.Author.Needs.{needs}
-use lib.ListN.{length, drop, set, length-set}
+use lib.ListN.{length, drop, length-set}
 use Rattle.text.specs.Text.{glyph, numeral}
 use Rattle.text.specs.TextLaws.{numeral-digit, numeral-step, two-digits, below-before, digit-put}
 use Rattle.text.proofs.append.numeral_of.Statement.{statement}

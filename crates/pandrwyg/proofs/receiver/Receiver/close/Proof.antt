@@ -5,7 +5,7 @@ use native.Mathlib.Omega.{arith}
 use lib.ListN.{length}
 use Rattle.gaussian.specs.SettingsLaws.{accepted}
 use Rattle.pandrwyg.specs.Receiver.{closeRefusal}
-use Rattle.pandrwyg.specs.Sound.{Sound, sound, used-fit}
+use Rattle.pandrwyg.specs.Sound.{Sound, sound, used-fit, used-reduced}
 use Rattle.pandrwyg.specs.ReceiverLaws.{close-accepted, close-refused, close-done}
 use Rattle.pandrwyg.specs.declared.answer.Received.the-variants.{Refused}
 use borrow.Author.Needs.{needs}
@@ -38,14 +38,27 @@ mul-size c = omega (arith, short (c .before .before))
 array-share-prefix-entries : tie.Need-array-share-prefix-entries
 array-share-prefix-entries c = omega (arith, short (c .before .before), whole (c .before .before .before .before))
 
+slice-aggregate-reduced-vector : tie.Need-slice-aggregate-reduced-vector
+slice-aggregate-reduced-vector c = sym (safe (c .before .before .before) .reduced .size)
+
+reduced-vector-requires : tie.Need-reduced-vector-requires
+reduced-vector-requires c κs = let s = safe (c .before .before .before) in (accepted _ _ _ (s .settings) .narrow, s .reduced .size)
+
+array-share-prefix-entries-2 : tie.Need-array-share-prefix-entries-2
+array-share-prefix-entries-2 c =
+    omega (arith, short (c .before .before .before .before), whole (c .before .before .before .before .before .before))
+
 slice-aggregate-space-answer : tie.Need-slice-aggregate-space-answer
-slice-aggregate-space-answer c = sym (safe (c .before .before .before) .reduced .size)
+slice-aggregate-space-answer c = sym (safe (c .before .before .before .before .before) .reduced .size)
 
 space-answer-requires : tie.Need-space-answer-requires
-space-answer-requires c κs = let s = safe (c .before .before .before) in (accepted _ _ _ (s .settings), s .reduced)
+space-answer-requires c κs =
+    let s = safe (c .before .before .before .before .before) in
+    let found = c .before .reduced-vector .ensures in
+    (accepted _ _ _ (s .settings), s .reduced, found .1 (found .0 ∙ used-reduced _ s))
 
 returns-2 : tie.Need-returns-2
-returns-2 c = c .space-answer .ensures ∙ close-done _ _ (unrefused (c .before .before .before .before))
+returns-2 c = c .space-answer .ensures ∙ close-done _ _ (unrefused (c .before .before .before .before .before .before))
 
 pub close-spec : {M : Type 1} → statement M
 close-spec =
@@ -55,6 +68,9 @@ close-spec =
     returns
     mul-size
     array-share-prefix-entries
+    slice-aggregate-reduced-vector
+    reduced-vector-requires
+    array-share-prefix-entries-2
     slice-aggregate-space-answer
     space-answer-requires
     returns-2)
