@@ -8,8 +8,8 @@ use Prim.Native.Nat.{ℕ}
 use lib.ListN.{getD, drop}
 use Rattle.linear.specs.Span.{All, none, more}
 use Rattle.bench_examples.specs.Table.{Example, answer, examples}
-use Rattle.gaussian.specs.Gaussian.{gaussian}
-use Rattle.gaussian.specs.Settings.{rowLengthOk, shapeOk, countOk, settingsRefusal, countOf}
+use Rattle.counts.specs.Gaussian.{gaussian}
+use Rattle.settings.specs.Settings.{rowLengthOk, shapeOk, countOk, settingsRefusal, countOf}
 use Rattle.field.specs.Field.{isFieldSize, add, multiply, negate, inverseFrom, invert}
 use Rattle.matrix.specs.Matrix.{leadFrom, lead, pivotAt, identifying, columnValue, entriesBelow, columnAlone, rowReduced, isReduced}
 use Rattle.matrix.specs.Shape.{topValue, cell, flatten}

@@ -9,7 +9,7 @@
 use mathlib.Core.List.{List, [], _∷_, _++_}
 use Prim.Native.Nat.{ℕ, _*_}
 use lib.ListN.{replicate}
-use Rattle.gaussian.specs.Settings.{countOf, countNumber, countValue}
+use Rattle.settings.specs.Settings.{countOf, countNumber, countValue}
 use Rattle.listing.specs.Listing.{header, listingOutput}
 use Rattle.pandrwyg.specs.Calls.{numberOf, answerNumber, answerIndex, drawRefusal, drawBuffer}
 use Rattle.pandrwyg.specs.Reception.{receiveOf, receivedNumber, receivedIndex, receivedDimension, reduceBuffer}

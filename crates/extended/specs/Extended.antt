@@ -13,7 +13,7 @@ use Prim.Native.Nat.{ℕ, suc, _+_, _*_, _-_, _^_, _/_}
 use Rattle.basics.specs.Choice.{pick}
 use Rattle.basics.specs.Sum.{sum, bit, Lex}
 use Rattle.matrix.specs.Matrix.{pivotAt, columnValue}
-use Rattle.gaussian.specs.Gaussian.{gaussian}
+use Rattle.counts.specs.Gaussian.{gaussian}
 
 unfoldable pub ones : ℕ → ℕ → List ℕ → ℕ → ℕ
 ones n k m j = sum j (λ i. bit (pivotAt n k m (suc i)))

@@ -16,7 +16,7 @@ use Rattle.matrix.specs.Matrix.{entry, pivotAt, columnValue, Reduced}
 use Rattle.matrix.specs.Shape.{Shape, free, pivot, topValue, Peeled, peeled-empty, peeled-free, peeled-pivot}
 use Rattle.matrix.specs.Located.{Located, located-start, located-free, located-pivot, free-no-pivot, pivot-here}
 use Rattle.matrix.specs.Column.{free-column, LocatedColumn, at-free, at-pivot, located-column}
-use Rattle.gaussian.specs.Gaussian.{gaussian}
+use Rattle.counts.specs.Gaussian.{gaussian}
 use Rattle.extended.specs.Extended.{ones, extendedTermAt, extendedTerm, extendedIndex}
 use Rattle.extended.specs.Ranked.{extendedRank}
 

@@ -31,7 +31,7 @@ use Rattle.matrix.specs.Shape.{Shape, empty, free, pivot, Peeled, peeled-empty,
 use Rattle.matrix.specs.ShapeLaws.{peeled-valid, topValue-below}
 use Rattle.matrix.specs.Located.{Located, located-free, located-pivot, free-no-pivot, pivot-here}
 use Rattle.matrix.specs.Column.{free-column, pivot-column}
-use Rattle.gaussian.specs.Gaussian.{gaussian}
+use Rattle.counts.specs.Gaussian.{gaussian}
 use Rattle.extended.specs.Extended.{extendedColumn}
 use Rattle.extended.specs.Ranked.{extendedRank}
 use Rattle.extended.specs.Count.{rank-below}

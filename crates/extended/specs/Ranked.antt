@@ -8,7 +8,7 @@ use Prim.Native.Nat.{ℕ, zero, suc, pred, _+_, _*_, _-_, _^_, _/_, _%_}
 use lib.Dec.{ltb}
 use Rattle.basics.specs.Choice.{pick}
 use Rattle.matrix.specs.Shape.{Shape, empty, free, pivot, cell, flatten}
-use Rattle.gaussian.specs.Gaussian.{gaussian}
+use Rattle.counts.specs.Gaussian.{gaussian}
 
 unfoldable pub extendedRank : ℕ → Shape → ℕ → ℕ → ℕ
 extendedRank q empty k n = 0

@@ -21,11 +21,11 @@ use Rattle.matrix.specs.Shape.{Shape, topValue}
 use Rattle.matrix.specs.ShapeLaws.{free-value, topValue-below}
 use Rattle.matrix.specs.Located.{Located, free-no-pivot, pivot-here}
 use Rattle.matrix.specs.Column.{LocatedColumn, at-free, at-pivot, located-column}
-use Rattle.gaussian.specs.Gaussian.{gaussian, tableEntry}
-use Rattle.gaussian.specs.Settings.{Accepted}
-use Rattle.gaussian.specs.SettingsLaws.{entry-within}
+use Rattle.counts.specs.Gaussian.{gaussian, tableEntry}
+use Rattle.settings.specs.Settings.{Accepted}
+use Rattle.counts.specs.Laws.{entry-within}
 use Rattle.field.specs.Small.{size-small}
-use Rattle.gaussian.specs.Laws.{gaussian-longer-le}
+use Rattle.counts.specs.Laws.{gaussian-longer-le}
 use Rattle.extended.specs.Extended.{ones, extendedTerm, extendedIndex}
 use Rattle.extended.specs.Formula.{ones-before, term-free, term-pivot}
 use Rattle.extended.specs.Part.{located-count}

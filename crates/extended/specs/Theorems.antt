@@ -27,7 +27,7 @@ use Rattle.matrix.specs.ShapeLaws.{peeled-valid}
 use Rattle.matrix.specs.Shaped.{shape-matrix, shape-peeled, shape-reduced}
 use Rattle.matrix.specs.Located.{located-start}
 use Rattle.matrix.specs.Values.{columnValue-below, columns-injective}
-use Rattle.gaussian.specs.Gaussian.{gaussian}
+use Rattle.counts.specs.Gaussian.{gaussian}
 use Rattle.extended.specs.Extended.{extendedIndex, extendedColumn, extendedBefore}
 use Rattle.extended.specs.Ranked.{extendedShape, drawnExtended}
 use Rattle.extended.specs.Count.{rank-below, shape-valid, rank-of-shape, shape-of-rank}

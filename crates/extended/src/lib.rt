@@ -4,8 +4,8 @@ ghost use Prim.Native.Nat.{_*_, _^_, _%_, _≤_, _<_};
 ghost use lib.Count.{ones};
 ghost use lib.ListN.{length};
 ghost use Rattle.matrix.specs.Matrix.{identifying, Reduced};
-ghost use Rattle.gaussian.specs.Gaussian.{gaussian};
-ghost use Rattle.gaussian.specs.Settings.{Accepted};
+ghost use Rattle.counts.specs.Gaussian.{gaussian};
+ghost use Rattle.settings.specs.Settings.{Accepted};
 ghost use Rattle.extended.specs.Extended.{extendedTerm, extendedIndex};
 ghost use Rattle.extended.specs.Ranked.{drawnExtended};
 
@@ -29,9 +29,9 @@ fn column_term(m: &[u8], q: u64, n: usize, k: usize, v: u16, j: usize) -> u64
     let rows = k - w;
     let c = n - j;
     if matrix::pivot_at(v, j - 1) {
-        return gaussian::free_count(q, c as u64, rows as u64);
+        return counts::free_count(q, c as u64, rows as u64);
     }
-    matrix::append_digits(0, m, q, n, c, rows) * gaussian::coefficient(q, c as u64, rows as u64)
+    matrix::append_digits(0, m, q, n, c, rows) * counts::coefficient(q, c as u64, rows as u64)
 }
 
 // The extended index of a reduced matrix, by formula (5); v is the identifying vector.
@@ -61,9 +61,9 @@ pub fn unrank(m: &mut [u8], q: u64, n: usize, k: usize, index: ExtendedIndex)
     let mut columns = n;
     while columns > 0 {
         let c = columns - 1;
-        let free = gaussian::free_count(q, c as u64, rows as u64);
+        let free = counts::free_count(q, c as u64, rows as u64);
         if rest < free {
-            let each = gaussian::coefficient(q, c as u64, rows as u64);
+            let each = counts::coefficient(q, c as u64, rows as u64);
             let value = rest / each;
             rest = rest % each;
             matrix::write_digits(m, q, n, k, c, rows, value);

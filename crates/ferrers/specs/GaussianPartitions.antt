@@ -14,7 +14,7 @@ use lib.Pow.{pow-add}
 use Rattle.basics.specs.Sum.{sum}
 use Rattle.basics.specs.SumLaws.{sum-same, sum-zeros, sum-split, sum-front, sum-times}
 use Rattle.basics.specs.SumMore.{sum-add, sum-longer}
-use Rattle.gaussian.specs.Gaussian.{gaussian}
+use Rattle.counts.specs.Gaussian.{gaussian}
 use Rattle.ferrers.specs.Box.{box-limit}
 use Rattle.ferrers.specs.Less.{less-add, less-none}
 use Rattle.ferrers.specs.Partitions.{partitions}

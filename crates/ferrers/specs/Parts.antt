@@ -7,8 +7,8 @@ use Prim.Native.Nat.{ℕ, _+_, _*_, _-_, _^_, _≤_}
 use native.Mathlib.Nat.{mul-le-mul-right, one-le-pow}
 use native.Mathlib.Omega.{arith}
 use Rattle.field.specs.Small.{size-small}
-use Rattle.gaussian.specs.Gaussian.{greatestCount}
-use Rattle.gaussian.specs.Settings.{Accepted}
+use Rattle.counts.specs.Gaussian.{greatestCount}
+use Rattle.settings.specs.Settings.{Accepted}
 use Rattle.matrix.specs.Matrix.{Reduced}
 use Rattle.ferrers.specs.Counting.{size-within}
 use Rattle.ferrers.specs.Ferrers.{size, diagram, diagramPlace, largerDiagrams, tableauValue, ferrersIndex}

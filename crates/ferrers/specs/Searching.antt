@@ -12,7 +12,7 @@ use native.Mathlib.Nat.{le-refl, add-sub-of-le, pow-zero, div-one, mod-one, div-
 use native.Mathlib.Omega.{arith}
 use borrow.Author.Tests.{lt-ltb, le-ltb}
 use Rattle.basics.specs.Sum.{sum}
-use Rattle.gaussian.specs.Gaussian.{gaussian}
+use Rattle.counts.specs.Gaussian.{gaussian}
 use Rattle.matrix.specs.Shape.{cell, flatten}
 use Rattle.ferrers.specs.GaussianPartitions.{weight, gaussian-sized}
 use Rattle.ferrers.specs.Ranked.{boxCount, diagramShape, sizedShape, ferrersShape, drawnFerrers}

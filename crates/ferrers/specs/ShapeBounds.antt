@@ -14,7 +14,7 @@ use lib.Arith.{digits-lt}
 use lib.Pow.{pow-add}
 use Rattle.basics.specs.Sum.{sum, sumRange}
 use Rattle.basics.specs.SumMore.{sum-range}
-use Rattle.gaussian.specs.Gaussian.{gaussian}
+use Rattle.counts.specs.Gaussian.{gaussian}
 use Rattle.matrix.specs.Shape.{Shape, free, Valid, valid-empty, valid-free, valid-pivot}
 use Rattle.ferrers.specs.Box.{box-no-row, box-next, box-free-le}
 use Rattle.ferrers.specs.GaussianPartitions.{weight, gaussian-sized}

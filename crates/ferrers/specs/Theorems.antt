@@ -20,8 +20,8 @@ use lib.ListN.{getD}
 use Rattle.basics.specs.Lexicographic.{lex-irreflexive, lex-transitive}
 use Rattle.basics.specs.Order.{le-or-lt}
 use Rattle.basics.specs.Sum.{Lex}
-use Rattle.gaussian.specs.Gaussian.{gaussian}
-use Rattle.gaussian.specs.Laws.{gaussian-none}
+use Rattle.counts.specs.Gaussian.{gaussian}
+use Rattle.counts.specs.Laws.{gaussian-none}
 use Rattle.matrix.specs.Matrix.{Reduced}
 use Rattle.matrix.specs.Peel.{peeled-of}
 use Rattle.matrix.specs.ShapeLaws.{peeled-valid}

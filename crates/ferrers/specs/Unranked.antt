@@ -11,7 +11,7 @@ use native.Mathlib.Omega.{arith}
 use borrow.Author.Tests.{lt-ltb, le-ltb}
 use lib.Arith.{le-zero, digits-lt, digits-div, digits-mod}
 use Rattle.basics.specs.SumMore.{range-none}
-use Rattle.gaussian.specs.Gaussian.{gaussian}
+use Rattle.counts.specs.Gaussian.{gaussian}
 use Rattle.matrix.specs.Shape.{Shape, Valid}
 use Rattle.ferrers.specs.DiagramShape.{diagram-of-shape}
 use Rattle.ferrers.specs.GaussianPartitions.{weight, gaussian-sized}

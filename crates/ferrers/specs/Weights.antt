@@ -15,8 +15,8 @@ use Rattle.basics.specs.SumMore.{sum-range, range-none, range-front}
 use Rattle.basics.specs.Test.{everyPair, below}
 use Rattle.field.specs.Field.{isFieldSize}
 use Rattle.field.specs.Small.{size-small}
-use Rattle.gaussian.specs.Gaussian.{gaussian, greatestCount}
-use Rattle.gaussian.specs.Settings.{Accepted}
+use Rattle.counts.specs.Gaussian.{gaussian, greatestCount}
+use Rattle.settings.specs.Settings.{Accepted}
 use Rattle.ferrers.specs.Box.{box-positive}
 use Rattle.ferrers.specs.Ferrers.{largerDiagrams}
 use Rattle.ferrers.specs.Formula.{larger-formula}

@@ -4,8 +4,8 @@ mod lookup;
 ghost use mathlib.Core.Path.{_≡_};
 ghost use Prim.Native.Nat.{ℕ, _*_, _-_, _^_, _≤_, _<_};
 ghost use lib.ListN.{length};
-ghost use Rattle.gaussian.specs.Gaussian.{gaussian};
-ghost use Rattle.gaussian.specs.Settings.{Accepted};
+ghost use Rattle.counts.specs.Gaussian.{gaussian};
+ghost use Rattle.settings.specs.Settings.{Accepted};
 ghost use Rattle.matrix.specs.Matrix.{identifying, Reduced};
 ghost use Rattle.matrix.specs.Shape.{Shape, cell, flatten};
 ghost use Rattle.ferrers.specs.Ferrers.{size, diagram, diagramPlace, tableauValue, largerDiagrams, ferrersIndex};
@@ -95,7 +95,7 @@ fn weight(q: u64, n: usize, k: usize, begin: u64, limit: usize, m: usize) -> u64
     requires { ⌜ Accepted q n k × (begin ≡ boxBegin n k) × (limit ≡ k * (n - k)) × (m ≤ limit) ⌝ }
     ensures { λ r. ⌜ r ≡ boxCount n k m * q ^ m ⌝ }
 {
-    box_entry(n, k, begin, limit, m) * gaussian::power(q, m)
+    box_entry(n, k, begin, limit, m) * counts::power(q, m)
 }
 
 // The number of spaces whose diagrams have more than m dots.
@@ -181,7 +181,7 @@ pub fn rank(m: &[u8], q: u64, n: usize, k: usize, v: u16) -> FerrersIndex
     let total = size_of(m, n, k, v);
     let place = place_of(m, q, n, k, v, total);
     let tableau = tableau_of(m, q, n, k, v);
-    let index = larger(q, n, k, total) + gaussian::power(q, total) * place + tableau;
+    let index = larger(q, n, k, total) + counts::power(q, total) * place + tableau;
     FerrersIndex(index)
 }
 
@@ -264,7 +264,7 @@ pub fn unrank(m: &mut [u8], q: u64, n: usize, k: usize, index: FerrersIndex)
     ensures { λ _. ⌜ now (m .exit) ≡ drawnFerrers q n k (index .0) ⌝ }
 {
     let found = find_size(q, n, k, index.0);
-    let base = gaussian::power(q, found.size);
+    let base = counts::power(q, found.size);
     let v = vector_at(n, k, found.size, found.rest / base);
     draw(m, q, n, k, v, found.rest % base);
 }

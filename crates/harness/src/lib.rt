@@ -1,7 +1,7 @@
 // Flat shims for the C tests, over numbers and byte slices, for what only Rattle callers reach. No part of the product.
 pub mod receiver;
 
-use gaussian::Counted;
+use settings::Counted;
 use pandrwyg::answer::Numbered;
 use pandrwyg::answer::Reduction;
 
@@ -49,12 +49,12 @@ pub extern "C" fn harness_table_entry(place: u64) -> u64 {
     if !field::is_size(q) {
         return 0;
     }
-    gaussian::table_entry(q, place / 17 % 17, place % 17)
+    counts::table_entry(q, place / 17 % 17, place % 17)
 }
 
 #[no_mangle]
 pub extern "C" fn harness_count(q: u64, n: u64, k: u64) -> Answer {
-    match gaussian::count(q, n, k) {
+    match settings::count(q, n, k) {
         Counted::Count(count) => done(count),
         Counted::Refused(refusal) => refused(refusal),
     }

@@ -12,9 +12,9 @@ use lib.ListN.{length}
 use Rattle.basics.specs.Order.{le-or-lt}
 use Rattle.field.specs.Small.{size-small}
 use Rattle.matrix.specs.Matrix.{Reduced}
-use Rattle.gaussian.specs.Gaussian.{gaussian}
-use Rattle.gaussian.specs.Laws.{gaussian-whole}
-use Rattle.gaussian.specs.Settings.{Accepted}
+use Rattle.counts.specs.Gaussian.{gaussian}
+use Rattle.counts.specs.Laws.{gaussian-whole}
+use Rattle.settings.specs.Settings.{Accepted}
 use Rattle.extended.specs.Ranked.{drawnExtended}
 use Rattle.extended.specs.Theorems.{drawn-reduced}
 use Rattle.ferrers.specs.Ferrers.{ferrersIndex}

@@ -16,9 +16,9 @@ use lib.Dec.{leb}
 use lib.ListN.{length}
 use Rattle.refusal.specs.Refusal.{listing as listingRefusal, refuseUnless}
 use Rattle.refusal.specs.RefusalLaws.{first-zero, test-zero}
-use Rattle.gaussian.specs.Gaussian.{gaussian}
-use Rattle.gaussian.specs.Settings.{settingsRefusal, Accepted}
-use Rattle.gaussian.specs.SettingsLaws.{accepted}
+use Rattle.counts.specs.Gaussian.{gaussian}
+use Rattle.settings.specs.Settings.{settingsRefusal, Accepted}
+use Rattle.settings.specs.SettingsLaws.{accepted}
 use Rattle.extended.specs.Ranked.{drawnExtended}
 use Rattle.ferrers.specs.Ferrers.{ferrersIndex}
 use Rattle.text.specs.Rows.{rowsText}

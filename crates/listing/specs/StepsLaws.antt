@@ -17,7 +17,7 @@ use lib.Dec.{eqb, ltb}
 use lib.ListN.{length}
 use Rattle.basics.specs.Order.{le-or-lt}
 use Rattle.refusal.specs.Refusal.{line as lineRefusal}
-use Rattle.gaussian.specs.Gaussian.{gaussian}
+use Rattle.counts.specs.Gaussian.{gaussian}
 use Rattle.settings_line.specs.SettingsLine.{parsed}
 use Rattle.settings_line.specs.declared.Settings.{Settings}
 use Rattle.settings_line.specs.declared.Parsed.the-variants.{Settings as settings, Malformed}

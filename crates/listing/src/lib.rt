@@ -38,11 +38,11 @@ pub const CHUNK_SIZE: usize = 20480;
 pub fn list_refusal(q: u64, n: u64, k: u64) -> u32
     ensures { λ r. ⌜ r ≡ listRefusal q n k ⌝ }
 {
-    let settings = gaussian::settings_refusal(q, n, k);
+    let settings = settings::settings_refusal(q, n, k);
     if settings != 0 {
         return settings;
     }
-    if GREATEST_LISTING < gaussian::coefficient(q, n, k) {
+    if GREATEST_LISTING < counts::coefficient(q, n, k) {
         return refusal::LISTING;
     }
     0
@@ -96,7 +96,7 @@ fn lines_step(progress: Progress, chunk: &mut [u8]) -> Stepped
             size: 0,
         };
     }
-    let count = gaussian::coefficient(q, n, k);
+    let count = counts::coefficient(q, n, k);
     if count <= index {
         return Stepped {
             state: State::Done,

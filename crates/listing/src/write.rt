@@ -2,7 +2,7 @@
 ghost use mathlib.Core.Path.{_≡_};
 ghost use Prim.Native.Nat.{_-_, _≤_, _<_};
 ghost use lib.ListN.{length};
-ghost use Rattle.gaussian.specs.Gaussian.{gaussian};
+ghost use Rattle.counts.specs.Gaussian.{gaussian};
 ghost use Rattle.listing.specs.Listing.{header, refusedLine, listingLine, linesFrom};
 ghost use Rattle.listing.specs.ListingLaws.{Listable};
 ghost use Rattle.listing.specs.Pieces.{written};

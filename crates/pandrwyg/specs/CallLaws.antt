@@ -11,8 +11,8 @@ use Prim.Native.Nat.{ℕ, _*_, _<_, _≤_}
 use borrow.Author.Tests.{eq-eqb, ne-eqb, lt-ltb, le-ltb}
 use lib.ListN.{length}
 use Rattle.refusal.specs.Refusal.{length as lengthRefusal, index as indexRefusal, entry as entryRefusal, notReduced, numbering as numberingRefusal}
-use Rattle.gaussian.specs.Gaussian.{gaussian}
-use Rattle.gaussian.specs.Settings.{settingsRefusal}
+use Rattle.counts.specs.Gaussian.{gaussian}
+use Rattle.settings.specs.Settings.{settingsRefusal}
 use Rattle.matrix.specs.Matrix.{entriesBelow, isReduced}
 use Rattle.pandrwyg.specs.Numbering.{isNumbering}
 use Rattle.pandrwyg.specs.Calls.{choiceRefusal, drawRefusal, numberRefusal, convertRefusal}

@@ -16,8 +16,8 @@ use lib.Dec.{eqb, ltb}
 use lib.ListN.{length}
 use Rattle.basics.specs.Choice.{pick}
 use Rattle.refusal.specs.Refusal.{length as lengthRefusal, index as indexRefusal, entry as entryRefusal, notReduced, numbering as numberingRefusal, noCounterpart, refuseUnless, first}
-use Rattle.gaussian.specs.Gaussian.{gaussian}
-use Rattle.gaussian.specs.Settings.{settingsRefusal}
+use Rattle.counts.specs.Gaussian.{gaussian}
+use Rattle.settings.specs.Settings.{settingsRefusal}
 use Rattle.matrix.specs.Matrix.{entriesBelow, isReduced}
 use Rattle.extended.specs.Extended.{extendedIndex}
 use Rattle.ferrers.specs.Ferrers.{ferrersIndex}

@@ -19,9 +19,9 @@ use lib.ListN.{length}
 use Rattle.basics.specs.Choice.{holds}
 use Rattle.refusal.specs.Refusal.{refuseUnless, index as indexRefusal, numbering as numberingRefusal}
 use Rattle.refusal.specs.RefusalLaws.{first-zero, test-zero}
-use Rattle.gaussian.specs.Gaussian.{gaussian}
-use Rattle.gaussian.specs.Settings.{settingsRefusal, Accepted}
-use Rattle.gaussian.specs.SettingsLaws.{accepted}
+use Rattle.counts.specs.Gaussian.{gaussian}
+use Rattle.settings.specs.Settings.{settingsRefusal, Accepted}
+use Rattle.settings.specs.SettingsLaws.{accepted}
 use Rattle.matrix.specs.Matrix.{entriesBelow, isReduced, Reduced}
 use Rattle.matrix.specs.Decided.{reduced-exactly}
 use Rattle.pandrwyg.specs.Numbering.{isNumbering}

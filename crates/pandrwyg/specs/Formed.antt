@@ -12,7 +12,7 @@ use Prim.Native.Nat.{ℕ, suc, _*_, _<_, _≤_}
 use borrow.Author.Tests.{eq-eqb, ne-eqb, lt-ltb, le-ltb, le-leb, lt-leb}
 use lib.Dec.{eqb, ltb}
 use lib.ListN.{getD}
-use Rattle.gaussian.specs.Settings.{settingsRefusal}
+use Rattle.settings.specs.Settings.{settingsRefusal}
 use Rattle.matrix.specs.Matrix.{entriesBelow, isReduced}
 use Rattle.basics.specs.All.{allBelow, allBelow-true, allBelow-false, allBelow-more, allBelow-end}
 use Rattle.basics.specs.Choice.{or-left, or-right}

@@ -12,8 +12,8 @@ use lib.ListN.{length, getD, drop, replicate, length-append, length-drop, take-a
 use lib.Seq.{take-at, getD-drop, getD-append-add, ext-getD}
 use Rattle.field.specs.Laws.{Laws}
 use Rattle.field.specs.Decide.{laws}
-use Rattle.gaussian.specs.Settings.{settingsRefusal}
-use Rattle.gaussian.specs.SettingsLaws.{accepted}
+use Rattle.settings.specs.Settings.{settingsRefusal}
+use Rattle.settings.specs.SettingsLaws.{accepted}
 use Rattle.matrix.specs.Matrix.{Reduced}
 use Rattle.linear.specs.Span.{All, Row, rowsOf}
 use Rattle.linear.specs.Eliminate.{join, insertRows, reducedRows, reducedOf, dimension}

@@ -22,7 +22,7 @@ use lib.ListN.{length, getD, take, replicate}
 use Rattle.basics.specs.All.{allBelow}
 use Rattle.basics.specs.Choice.{pick}
 use Rattle.refusal.specs.Refusal.{receiver as receiverRefusal, length as lengthRefusal, entry as entryRefusal, numbering as numberingRefusal, refuseUnless, first}
-use Rattle.gaussian.specs.Settings.{settingsRefusal}
+use Rattle.settings.specs.Settings.{settingsRefusal}
 use Rattle.matrix.specs.Matrix.{entriesBelow, isReduced}
 use Rattle.linear.specs.Span.{rowsOf}
 use Rattle.linear.specs.Eliminate.{reducedOf, dimension}

@@ -16,7 +16,7 @@ use lib.ListN.{length}
 use Rattle.basics.specs.Choice.{holds}
 use Rattle.refusal.specs.Refusal.{receiver as receiverRefusal, length as lengthRefusal, entry as entryRefusal, numbering as numberingRefusal, refuseUnless}
 use Rattle.refusal.specs.RefusalLaws.{test-zero}
-use Rattle.gaussian.specs.Settings.{settingsRefusal}
+use Rattle.settings.specs.Settings.{settingsRefusal}
 use Rattle.matrix.specs.Matrix.{entriesBelow}
 use Rattle.pandrwyg.specs.Numbering.{isNumbering}
 use Rattle.pandrwyg.specs.Reception.{spaceAnswer}

@@ -21,7 +21,7 @@ use lib.ListN.{length}
 use Rattle.basics.specs.Choice.{pick}
 use Rattle.refusal.specs.Refusal.{fieldSize, shape, length as lengthRefusal, entry as entryRefusal, rowCount, tooFew, tooMany, refuseUnless, first}
 use Rattle.field.specs.Field.{isFieldSize}
-use Rattle.gaussian.specs.Settings.{rowLengthOk}
+use Rattle.settings.specs.Settings.{rowLengthOk}
 use Rattle.matrix.specs.Matrix.{entriesBelow}
 use Rattle.linear.specs.Span.{rowsOf}
 use Rattle.linear.specs.Eliminate.{reducedOf, dimension}

@@ -16,8 +16,8 @@ use Rattle.basics.specs.Choice.{holds}
 use Rattle.refusal.specs.Refusal.{fieldSize, shape, length as lengthRefusal, entry as entryRefusal, rowCount, refuseUnless}
 use Rattle.refusal.specs.RefusalLaws.{first-zero, test-zero}
 use Rattle.field.specs.Field.{isFieldSize}
-use Rattle.gaussian.specs.Settings.{rowLengthOk}
-use Rattle.gaussian.specs.SettingsLaws.{row-length-fits}
+use Rattle.settings.specs.Settings.{rowLengthOk}
+use Rattle.settings.specs.SettingsLaws.{row-length-fits}
 use Rattle.matrix.specs.Matrix.{entriesBelow}
 use Rattle.linear.specs.Span.{rowsOf}
 use Rattle.linear.specs.Eliminate.{reducedOf, dimension}

@@ -18,8 +18,8 @@ use Rattle.basics.specs.All.{allBelow-at, allBelow-true}
 use Rattle.basics.specs.Choice.{is-true, holds, or-left, or-right}
 use Rattle.basics.specs.Order.{le-or-lt}
 use Rattle.basics.specs.Test.{and-left, and-right}
-use Rattle.gaussian.specs.Settings.{settingsRefusal}
-use Rattle.gaussian.specs.SettingsLaws.{accepted}
+use Rattle.settings.specs.Settings.{settingsRefusal}
+use Rattle.settings.specs.SettingsLaws.{accepted}
 use Rattle.matrix.specs.Matrix.{entriesBelow, isReduced, Reduced}
 use Rattle.matrix.specs.Decided.{entries-below-true, reduced-exactly}
 use Rattle.pandrwyg.specs.Receiver.{used, restZero, wellFormed}

@@ -19,7 +19,7 @@ pub fn is_numbering(t: u64) -> bool
 pub fn choice_refusal(q: u64, n: u64, k: u64, t: u64) -> u32
     ensures { λ r. ⌜ r ≡ choiceRefusal q n k t ⌝ }
 {
-    let settings = gaussian::settings_refusal(q, n, k);
+    let settings = settings::settings_refusal(q, n, k);
     if settings != 0 {
         return settings;
     }

@@ -17,7 +17,7 @@ fn convert_refusal(q: u64, n: u64, k: u64, from: u64, to: u64, index: u64) -> u3
     if !choice::is_numbering(to) {
         return refusal::NUMBERING;
     }
-    if gaussian::coefficient(q, n, k) <= index {
+    if counts::coefficient(q, n, k) <= index {
         return refusal::INDEX;
     }
     0

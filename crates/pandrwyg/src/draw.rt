@@ -2,7 +2,7 @@
 ghost use mathlib.Core.Path.{_≡_};
 ghost use Prim.Native.Nat.{_*_, _<_};
 ghost use lib.ListN.{length};
-ghost use Rattle.gaussian.specs.Gaussian.{gaussian};
+ghost use Rattle.counts.specs.Gaussian.{gaussian};
 ghost use Rattle.pandrwyg.specs.Numbering.{drawn};
 ghost use Rattle.pandrwyg.specs.Calls.{drawRefusal, drawBuffer};
 ghost use Rattle.pandrwyg.specs.Chosen.{Chosen};
@@ -22,7 +22,7 @@ fn draw_refusal(q: u64, n: u64, k: u64, t: u64, index: u64, size: usize) -> u32
     if size as u64 != k * n {
         return refusal::LENGTH;
     }
-    if gaussian::coefficient(q, n, k) <= index {
+    if counts::coefficient(q, n, k) <= index {
         return refusal::INDEX;
     }
     0

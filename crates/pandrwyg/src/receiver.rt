@@ -40,7 +40,7 @@ pub struct Taken {
 pub fn start(q: u64, n: u64, k: u64) -> Started
     ensures { λ r. ⌜ r ≡ startOf q n k ⌝ }
 {
-    let refusal = gaussian::settings_refusal(q, n, k);
+    let refusal = settings::settings_refusal(q, n, k);
     if refusal != 0 {
         return Started {
             receiver: Receiver {
@@ -86,7 +86,7 @@ impl Receiver {
     fn well_formed(self) -> bool
         ensures { λ r. ⌜ r ≡ wellFormed self ⌝ }
     {
-        if gaussian::settings_refusal(self.q, self.n, self.k) != 0 {
+        if settings::settings_refusal(self.q, self.n, self.k) != 0 {
             return false;
         }
         if self.n < self.dimension {

@@ -12,7 +12,7 @@ fn reduce_refusal(q: u64, n: u64, row_count: u64, rows: &[u8], size: usize) -> u
     if !field::is_size(q) {
         return refusal::FIELD_SIZE;
     }
-    if !gaussian::row_length_ok(n) {
+    if !settings::row_length_ok(n) {
         return refusal::SHAPE;
     }
     if 64 < row_count {

@@ -1,6 +1,6 @@
 // The answer for a span.
 ghost use mathlib.Core.Path.{_≡_};
-ghost use Rattle.gaussian.specs.Settings.{Accepted};
+ghost use Rattle.settings.specs.Settings.{Accepted};
 ghost use Rattle.matrix.specs.Matrix.{identifying, Reduced};
 ghost use Rattle.pandrwyg.specs.Reception.{spaceAnswer};
 use crate::answer::Received;

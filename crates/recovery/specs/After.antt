@@ -14,7 +14,7 @@ use mathlib.Core.Path.{_≡_, ap, sym, _∙_, subst}
 use mathlib.Core.List.{List, []}
 use mathlib.Core.Logic.{_↔_, _⊎_}
 use Prim.Native.Nat.{ℕ}
-use Rattle.gaussian.specs.Settings.{settingsRefusal}
+use Rattle.settings.specs.Settings.{settingsRefusal}
 use Rattle.linear.specs.Span.{All, none, Row, HasDimension}
 use Rattle.linear.specs.ReducedOf.{dimension-has}
 use Rattle.pandrwyg.specs.Receiver.{holding, lentReceiver, lentAnswer, takeNumber}

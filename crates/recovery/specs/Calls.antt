@@ -17,7 +17,7 @@ use lib.Dec.{eqb}
 use lib.ListN.{length}
 use Rattle.basics.specs.Choice.{pick}
 use Rattle.refusal.specs.Refusal.{receiver as receiverRefusal}
-use Rattle.gaussian.specs.Settings.{settingsRefusal}
+use Rattle.settings.specs.Settings.{settingsRefusal}
 use Rattle.matrix.specs.Matrix.{entriesBelow}
 use Rattle.pandrwyg.specs.Reception.{receivedNumber}
 use Rattle.pandrwyg.specs.Receiver.{startOf, takeOf, lentReceiver, lentAnswer, closeOf, takeNumber}

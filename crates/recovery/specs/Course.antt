@@ -13,7 +13,7 @@ use borrow.Author.Tests.{eq-eqb, ne-eqb}
 use lib.Dec.{eqb, ltb}
 use Rattle.basics.specs.Choice.{pick}
 use Rattle.refusal.specs.Refusal.{receiver as receiverRefusal}
-use Rattle.gaussian.specs.Settings.{settingsRefusal}
+use Rattle.settings.specs.Settings.{settingsRefusal}
 use Rattle.linear.specs.Span.{All, none, more, Row}
 use Rattle.linear.specs.Every.{all-append}
 use Rattle.extended.specs.Extended.{extendedIndex}

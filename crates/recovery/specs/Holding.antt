@@ -19,7 +19,7 @@ use lib.Dec.{ltb}
 use lib.ListN.{length}
 use Rattle.basics.specs.Choice.{pick}
 use Rattle.field.specs.Laws.{Laws}
-use Rattle.gaussian.specs.Settings.{settingsRefusal}
+use Rattle.settings.specs.Settings.{settingsRefusal}
 use Rattle.matrix.specs.Matrix.{entriesBelow}
 use Rattle.linear.specs.Span.{All, Row, InSpan}
 use Rattle.linear.specs.Eliminate.{join, insertRow, reducedRows, reducedOf, dimension}

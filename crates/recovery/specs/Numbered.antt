@@ -12,8 +12,8 @@ use Prim.Native.Nat.{ℕ, _<_}
 use lib.Dec.{eqb}
 use borrow.Author.Tests.{eq-eqb}
 use Rattle.basics.specs.Choice.{pick, is-true, holds}
-use Rattle.gaussian.specs.Gaussian.{gaussian}
-use Rattle.gaussian.specs.Settings.{settingsRefusal}
+use Rattle.counts.specs.Gaussian.{gaussian}
+use Rattle.settings.specs.Settings.{settingsRefusal}
 use Rattle.matrix.specs.Matrix.{Reduced, entriesBelow, isReduced}
 use Rattle.matrix.specs.Decided.{entries-below-true, reduced-exactly}
 use Rattle.extended.specs.Extended.{extendedIndex}

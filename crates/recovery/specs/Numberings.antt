@@ -13,9 +13,9 @@ use Prim.Native.Nat.{ℕ, _<_}
 use lib.Dec.{eqb}
 use Rattle.basics.specs.Choice.{pick}
 use Rattle.field.specs.Small.{size-small}
-use Rattle.gaussian.specs.Gaussian.{gaussian}
-use Rattle.gaussian.specs.Settings.{settingsRefusal}
-use Rattle.gaussian.specs.SettingsLaws.{accepted}
+use Rattle.counts.specs.Gaussian.{gaussian}
+use Rattle.settings.specs.Settings.{settingsRefusal}
+use Rattle.settings.specs.SettingsLaws.{accepted}
 use Rattle.matrix.specs.Matrix.{Reduced}
 use Rattle.extended.specs.Extended.{extendedIndex, extendedBefore}
 use Rattle.extended.specs.Ranked.{drawnExtended}

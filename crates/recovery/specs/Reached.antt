@@ -11,7 +11,7 @@ use mathlib.Core.List.{List, [], _∷_, _++_, append-nil, append-assoc}
 use mathlib.Core.Logic.{_↔_}
 use Prim.Native.Nat.{ℕ}
 use lib.ListN.{length}
-use Rattle.gaussian.specs.Settings.{settingsRefusal}
+use Rattle.settings.specs.Settings.{settingsRefusal}
 use Rattle.linear.specs.Span.{All, none, more, Row}
 use Rattle.linear.specs.Every.{all-append}
 use Rattle.pandrwyg.specs.Receiver.{wellFormed, heldRows, holding, takeOf}

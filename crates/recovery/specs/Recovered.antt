@@ -14,7 +14,7 @@ use lib.Dec.{eqb}
 use lib.ListN.{length}
 use Rattle.basics.specs.Choice.{pick}
 use Rattle.field.specs.Laws.{Laws}
-use Rattle.gaussian.specs.Settings.{settingsRefusal}
+use Rattle.settings.specs.Settings.{settingsRefusal}
 use Rattle.matrix.specs.Matrix.{Reduced, entriesBelow}
 use Rattle.matrix.specs.Decided.{entries-below-true}
 use Rattle.linear.specs.Span.{All, none, more, Row, InSpan, Mixed, rowsOf, HasDimension}

@@ -15,7 +15,7 @@ use borrow.Author.Tests.{le-ltb}
 use Rattle.basics.specs.Choice.{pick}
 use Rattle.basics.specs.Order.{trichotomy}
 use Rattle.field.specs.Laws.{Laws}
-use Rattle.gaussian.specs.Settings.{settingsRefusal}
+use Rattle.settings.specs.Settings.{settingsRefusal}
 use Rattle.matrix.specs.Matrix.{Reduced}
 use Rattle.linear.specs.Span.{All, Row, InSpan, rowsOf, HasDimension}
 use Rattle.linear.specs.Eliminate.{reducedOf, dimension}

@@ -15,9 +15,9 @@ use native.Mathlib.Omega.{arith}
 use lib.ListN.{length}
 use Rattle.basics.specs.Choice.{pick}
 use Rattle.field.specs.Laws.{Laws}
-use Rattle.gaussian.specs.Gaussian.{gaussian}
-use Rattle.gaussian.specs.Settings.{settingsRefusal}
-use Rattle.gaussian.specs.SettingsLaws.{accepted as settings-accepted}
+use Rattle.counts.specs.Gaussian.{gaussian}
+use Rattle.settings.specs.Settings.{settingsRefusal}
+use Rattle.settings.specs.SettingsLaws.{accepted as settings-accepted}
 use Rattle.matrix.specs.Matrix.{Reduced}
 use Rattle.linear.specs.Span.{All, none, more, Row, InSpan, SameSpan, rowsOf, HasDimension}
 use Rattle.linear.specs.Every.{all-map, all-both}

@@ -1,5 +1,5 @@
 // Runs document 01's bench examples that are not proved, and prints a line for each; the file stdout holds what they must be.
-use gaussian::Counted;
+use settings::Counted;
 use libc::STDOUT_FILENO;
 
 fn print(n: u64) {
@@ -14,7 +14,7 @@ fn count(q: u64, n: u64, k: u64) {
     print(n);
     io::write_all(STDOUT_FILENO, b",");
     print(k);
-    match gaussian::count(q, n, k) {
+    match settings::count(q, n, k) {
         Counted::Count(count) => {
             io::write_all(STDOUT_FILENO, b": ");
             print(count);

@@ -1,9 +1,9 @@
 -- `listing::list_refusal` meets its contract: the tests in their order, each passed or answered.
 use mathlib.Core.Path.{_≡_, _∙_, sym}
 use native.Mathlib.Omega.{arith}
-use Rattle.gaussian.specs.Gaussian.{gaussian}
-use Rattle.gaussian.specs.Settings.{settingsRefusal, Accepted}
-use Rattle.gaussian.specs.SettingsLaws.{accepted, entry-of-accepted}
+use Rattle.counts.specs.Gaussian.{gaussian}
+use Rattle.settings.specs.Settings.{settingsRefusal, Accepted}
+use Rattle.settings.specs.SettingsLaws.{accepted, entry-of-accepted}
 use Rattle.listing.specs.ListingLaws.{list-settings, list-large, list-none}
 use borrow.Author.Needs.{needs}
 use Rattle.listing.proofs.list_refusal.Statement.{statement}

@@ -1,7 +1,7 @@
 -- `pandrwyg::choice::choice_refusal` meets its contract: the tests in their order, each passed or answered.
 use mathlib.Core.Path.{_≡_, _∙_, sym}
 use borrow.Author.Tests.{not-true, not-false}
-use Rattle.gaussian.specs.Settings.{settingsRefusal}
+use Rattle.settings.specs.Settings.{settingsRefusal}
 use Rattle.pandrwyg.specs.CallLaws.{choice-settings, choice-numbering, choice-none}
 use borrow.Author.Needs.{needs}
 use Rattle.pandrwyg.proofs.choice.choice_refusal.Statement.{statement}

@@ -4,7 +4,7 @@ use mathlib.Core.Bool.{true}
 use native.Mathlib.Omega.{arith}
 use borrow.Author.Needs.{needs}
 use borrow.Author.Tests.{not-true, not-false}
-use Rattle.gaussian.specs.Settings.{Accepted}
+use Rattle.settings.specs.Settings.{Accepted}
 use Rattle.matrix.specs.Matrix.{Reduced, identifying}
 use Rattle.pandrwyg.specs.Calls.{numberRefusal}
 use Rattle.pandrwyg.specs.CallLaws.{number-shape, number-none}

@@ -6,8 +6,8 @@ use native.Mathlib.Nat.{mul-le-mul}
 use native.Mathlib.Omega.{arith}
 use borrow.Author.Tests.{not-true, not-false}
 use Rattle.field.specs.Field.{isFieldSize}
-use Rattle.gaussian.specs.Settings.{rowLengthOk}
-use Rattle.gaussian.specs.SettingsLaws.{row-length-fits}
+use Rattle.settings.specs.Settings.{rowLengthOk}
+use Rattle.settings.specs.SettingsLaws.{row-length-fits}
 use Rattle.pandrwyg.specs.ReceptionLaws.{reduce-size, reduce-row, reduce-count, reduce-input, reduce-output, reduce-entry, reduce-none}
 use borrow.Author.Needs.{needs}
 use Rattle.pandrwyg.proofs.reduce.reduce_refusal.Statement.{statement}

@@ -2,7 +2,7 @@
 use mathlib.Core.Path.{_≡_, _∙_, ap, subst}
 use native.Mathlib.Omega.{arith}
 use Rattle.matrix.specs.Matrix.{Reduced, identifying}
-use Rattle.gaussian.specs.Settings.{Accepted}
+use Rattle.settings.specs.Settings.{Accepted}
 use Rattle.pandrwyg.specs.SpaceLaws.{space-few, space-many, space-extended, space-ferrers}
 use Rattle.pandrwyg.specs.declared.answer.Received.the-variants.{Extended, Ferrers}
 use Rattle.pandrwyg.proofs.space.space_answer.Statement.{statement}

@@ -3,7 +3,7 @@ use mathlib.Core.Path.{_≡_, _∙_, ap, sym}
 use Prim.Native.Nat.{_*_, _≤_}
 use native.Mathlib.Omega.{arith}
 use lib.ListN.{length}
-use Rattle.gaussian.specs.SettingsLaws.{accepted}
+use Rattle.settings.specs.SettingsLaws.{accepted}
 use Rattle.pandrwyg.specs.Receiver.{closeRefusal}
 use Rattle.pandrwyg.specs.Sound.{Sound, sound, used-fit, used-reduced}
 use Rattle.pandrwyg.specs.ReceiverLaws.{close-accepted, close-refused, close-done}

@@ -4,8 +4,8 @@ use mathlib.Core.Path.{_≡_, sym}
 use native.Mathlib.Nat.{mul-le-mul-right}
 use native.Mathlib.Omega.{arith}
 use lib.ListN.{length}
-use Rattle.gaussian.specs.Settings.{Accepted}
-use Rattle.gaussian.specs.SettingsLaws.{accepted}
+use Rattle.settings.specs.Settings.{Accepted}
+use Rattle.settings.specs.SettingsLaws.{accepted}
 use Rattle.matrix.specs.Decided.{entries-below}
 use Rattle.linear.specs.Span.{Row}
 use Rattle.linear.specs.Every.{all-of}

@@ -7,8 +7,8 @@ use native.Mathlib.Omega.{arith}
 use lib.ListN.{length}
 use lib.Seq.{length-take-le}
 use borrow.Author.Tests.{not-true, not-false}
-use Rattle.gaussian.specs.Settings.{settingsRefusal}
-use Rattle.gaussian.specs.SettingsLaws.{accepted}
+use Rattle.settings.specs.Settings.{settingsRefusal}
+use Rattle.settings.specs.SettingsLaws.{accepted}
 use Rattle.matrix.specs.Matrix.{entriesBelow}
 use Rattle.pandrwyg.specs.Receiver.{used}
 use Rattle.pandrwyg.specs.Formed.{formed-settings, formed-dimension, formed-entries, formed-shape, formed-rest}

@@ -1,0 +1,3 @@
+-- settings: the settings that are accepted, and Count.
+pub mod Settings
+pub mod SettingsLaws

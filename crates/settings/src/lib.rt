@@ -1,0 +1,46 @@
+// The settings q, n and k that are accepted, and how many spaces they have.
+ghost use mathlib.Core.Path.{_≡_};
+ghost use Rattle.settings.specs.Settings.{rowLengthOk, settingsRefusal, countOf};
+
+// What Count answers: the number of spaces, or the refusal.
+pub enum Counted {
+    Count(u64),
+    Refused(u32),
+}
+
+// Document 01: "Row length n is 1 to 16."
+pub fn row_length_ok(n: u64) -> bool
+    ensures { λ r. ⌜ r ≡ rowLengthOk n ⌝ }
+{
+    1 <= n && n <= 16
+}
+
+// The first of the refusals 1, 2, 3 that applies to the settings; 0 where they are accepted.
+pub fn settings_refusal(q: u64, n: u64, k: u64) -> u32
+    ensures { λ r. ⌜ r ≡ settingsRefusal q n k ⌝ }
+{
+    if !field::is_size(q) {
+        return refusal::FIELD_SIZE;
+    }
+    if !row_length_ok(n) {
+        return refusal::SHAPE;
+    }
+    if n < k {
+        return refusal::SHAPE;
+    }
+    if counts::coefficient(q, n, k) == 0 {
+        return refusal::COUNT;
+    }
+    0
+}
+
+// Count: the number of spaces. Refuses 1, 2, 3.
+pub fn count(q: u64, n: u64, k: u64) -> Counted
+    ensures { λ r. ⌜ r ≡ countOf q n k ⌝ }
+{
+    let refusal = settings_refusal(q, n, k);
+    if refusal != 0 {
+        return Counted::Refused(refusal);
+    }
+    Counted::Count(counts::table_entry(q, n, k))
+}
