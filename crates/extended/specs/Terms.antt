@@ -22,7 +22,7 @@ use Rattle.matrix.specs.ShapeLaws.{free-value, topValue-below}
 use Rattle.matrix.specs.Located.{Located, free-no-pivot, pivot-here}
 use Rattle.matrix.specs.Column.{LocatedColumn, at-free, at-pivot, located-column}
 use Rattle.counts.specs.Gaussian.{gaussian, tableEntry}
-use Rattle.settings.specs.Settings.{Accepted}
+use Rattle.settings.specs.laws.Accepted.{Accepted}
 use Rattle.counts.specs.Laws.{entry-within}
 use Rattle.field.specs.Small.{size-small}
 use Rattle.counts.specs.Laws.{gaussian-longer-le}

@@ -5,7 +5,7 @@ ghost use lib.Count.{ones};
 ghost use lib.ListN.{length};
 ghost use Rattle.matrix.specs.Matrix.{identifying, Reduced};
 ghost use Rattle.counts.specs.Gaussian.{gaussian};
-ghost use Rattle.settings.specs.Settings.{Accepted};
+ghost use Rattle.settings.specs.laws.Accepted.{Accepted};
 ghost use Rattle.extended.specs.Extended.{extendedTerm, extendedIndex};
 ghost use Rattle.extended.specs.Ranked.{drawnExtended};
 

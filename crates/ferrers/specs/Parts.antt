@@ -8,7 +8,7 @@ use native.Mathlib.Nat.{mul-le-mul-right, one-le-pow}
 use native.Mathlib.Omega.{arith}
 use Rattle.field.specs.Small.{size-small}
 use Rattle.counts.specs.Gaussian.{greatestCount}
-use Rattle.settings.specs.Settings.{Accepted}
+use Rattle.settings.specs.laws.Accepted.{Accepted}
 use Rattle.matrix.specs.Matrix.{Reduced}
 use Rattle.ferrers.specs.Counting.{size-within}
 use Rattle.ferrers.specs.Ferrers.{size, diagram, diagramPlace, largerDiagrams, tableauValue, ferrersIndex}

@@ -36,7 +36,7 @@ use lib.ListN.{length, replicate}
 use lib.Pow.{pow-add}
 use Rattle.basics.specs.Order.{le-or-lt}
 use Rattle.field.specs.Small.{size-small}
-use Rattle.settings.specs.Settings.{Accepted}
+use Rattle.settings.specs.laws.Accepted.{Accepted}
 use Rattle.matrix.specs.Drawing.{drawing-start}
 use Rattle.matrix.specs.Flatten.{flatten-same, flatten-entries}
 use Rattle.matrix.specs.Matrix.{entry}

@@ -16,7 +16,7 @@ use Rattle.basics.specs.Test.{everyPair, below}
 use Rattle.field.specs.Field.{isFieldSize}
 use Rattle.field.specs.Small.{size-small}
 use Rattle.counts.specs.Gaussian.{gaussian, greatestCount}
-use Rattle.settings.specs.Settings.{Accepted}
+use Rattle.settings.specs.laws.Accepted.{Accepted}
 use Rattle.ferrers.specs.Box.{box-positive}
 use Rattle.ferrers.specs.Ferrers.{largerDiagrams}
 use Rattle.ferrers.specs.Formula.{larger-formula}

@@ -1,9 +1,10 @@
 // Flat shims for the C tests, over numbers and byte slices, for what only Rattle callers reach. No part of the product.
-pub mod receiver;
+pub mod image;
 
+use number::Numbered;
+use numbering::Index;
+use reduce::Reduction;
 use settings::Counted;
-use pandrwyg::answer::Numbered;
-use pandrwyg::answer::Reduction;
 
 // An answer with document 01's refusal number, index or count, and dimension.
 #[repr(C)]
@@ -60,17 +61,23 @@ pub extern "C" fn harness_count(q: u64, n: u64, k: u64) -> Answer {
     }
 }
 
+fn index_value(index: Index) -> u64 {
+    match index {
+        Index::Extended(i) => i.0,
+        Index::Ferrers(i) => i.0,
+    }
+}
+
 fn numbered(answer: Numbered) -> Answer {
     match answer {
-        Numbered::Extended(index) => done(index.0),
-        Numbered::Ferrers(index) => done(index.0),
+        Numbered::Done(index) => done(index_value(index)),
         Numbered::Refused(refusal) => refused(refusal),
     }
 }
 
 #[no_mangle]
 pub extern "C" fn harness_number(q: u64, n: u64, k: u64, numbering: u64, matrix: &[u8]) -> Answer {
-    numbered(pandrwyg::number::number(q, n, k, numbering, matrix))
+    numbered(number::number(q, n, k, numbering, matrix))
 }
 
 #[no_mangle]
@@ -82,7 +89,7 @@ pub extern "C" fn harness_convert(
     to: u64,
     index: u64,
 ) -> Answer {
-    numbered(pandrwyg::convert::convert(q, n, k, from, to, index))
+    numbered(convert::convert(q, n, k, from, to, index))
 }
 
 #[no_mangle]
@@ -93,7 +100,7 @@ pub extern "C" fn harness_reduce(
     rows: &[u8],
     output: &mut [u8],
 ) -> Answer {
-    match pandrwyg::reduce::reduce(q, n, row_count, rows, output) {
+    match reduce::reduce(q, n, row_count, rows, output) {
         Reduction::Done(space) => Answer {
             refusal: 0,
             value: 0,

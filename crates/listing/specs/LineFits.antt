@@ -14,7 +14,7 @@ use Rattle.field.specs.Small.{size-small}
 use Rattle.matrix.specs.Matrix.{Reduced}
 use Rattle.counts.specs.Gaussian.{gaussian}
 use Rattle.counts.specs.Laws.{gaussian-whole}
-use Rattle.settings.specs.Settings.{Accepted}
+use Rattle.settings.specs.laws.Accepted.{Accepted}
 use Rattle.extended.specs.Ranked.{drawnExtended}
 use Rattle.extended.specs.Theorems.{drawn-reduced}
 use Rattle.ferrers.specs.Ferrers.{ferrersIndex}

@@ -13,7 +13,7 @@ use mathlib.Core.Bool.{true, false}
 use mathlib.Core.List.{List, [], _∷_, _++_}
 use Prim.Native.Nat.{ℕ, zero, suc}
 use lib.Dec.{leb, eqb}
-use Rattle.refusal.specs.Refusal.{line as lineRefusal, listing as listingRefusal, refuseUnless, first}
+use Rattle.refusal.specs.Refusal.{lineRefusal, listingRefusal, refuseUnless, first}
 use Rattle.counts.specs.Gaussian.{gaussian}
 use Rattle.settings.specs.Settings.{settingsRefusal}
 use Rattle.extended.specs.Ranked.{drawnExtended}

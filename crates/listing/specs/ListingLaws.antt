@@ -11,14 +11,15 @@ use mathlib.Core.List.{[], _∷_, _++_, append-assoc, append-nil}
 use Prim.Native.Nat.{ℕ, zero, suc, _+_, _≤_, _<_}
 use native.Mathlib.Nat.{add-zero, zero-add}
 use native.Mathlib.Omega.{arith}
-use borrow.Author.Tests.{eq-eqb, ne-eqb, le-leb, lt-leb, leb-true}
+use borrow.Author.Tests.{le-leb, lt-leb, leb-true}
 use lib.Dec.{leb}
 use lib.ListN.{length}
-use Rattle.refusal.specs.Refusal.{listing as listingRefusal, refuseUnless}
-use Rattle.refusal.specs.RefusalLaws.{first-zero, test-zero}
+use Rattle.refusal.specs.Refusal.{listingRefusal, refuseUnless}
+use Rattle.refusal.specs.laws.First.{first-refused, first-passed, first-zero, test-refused, test-passed, test-zero, first-none}
 use Rattle.counts.specs.Gaussian.{gaussian}
-use Rattle.settings.specs.Settings.{settingsRefusal, Accepted}
-use Rattle.settings.specs.SettingsLaws.{accepted}
+use Rattle.settings.specs.Settings.{settingsRefusal}
+use Rattle.settings.specs.laws.Accepted.{Accepted}
+use Rattle.settings.specs.laws.Accepted.{accepted}
 use Rattle.extended.specs.Ranked.{drawnExtended}
 use Rattle.ferrers.specs.Ferrers.{ferrersIndex}
 use Rattle.text.specs.Rows.{rowsText}
@@ -32,15 +33,15 @@ pub record Listable (q n k : ℕ) : Type 0 where
 module _ (q n k : ℕ) where
   pub list-settings : (settingsRefusal q n k ≡ 0 → ⊥) → listRefusal q n k ≡ settingsRefusal q n k
   unfolding listRefusal
-  list-settings s = rw (ne-eqb (settingsRefusal q n k) 0 s)
+  list-settings s = first-refused _ _ s
 
   pub list-large : settingsRefusal q n k ≡ 0 → greatestListing < gaussian q n k → listRefusal q n k ≡ listingRefusal
   unfolding listRefusal
-  list-large s h = rw (eq-eqb (settingsRefusal q n k) 0 s, lt-leb (gaussian q n k) greatestListing h)
+  list-large s h = first-passed _ _ s ∙ test-refused _ _ _ tt (lt-leb (gaussian q n k) greatestListing h)
 
   pub list-none : settingsRefusal q n k ≡ 0 → gaussian q n k ≤ greatestListing → listRefusal q n k ≡ 0
   unfolding listRefusal
-  list-none s h = rw (eq-eqb (settingsRefusal q n k) 0 s, le-leb (gaussian q n k) greatestListing h)
+  list-none s h = first-passed _ _ s ∙ test-passed _ _ _ (le-leb (gaussian q n k) greatestListing h) ∙ first-none
 
   pub listable : listRefusal q n k ≡ 0 → Listable q n k
   unfolding listRefusal
@@ -48,7 +49,7 @@ module _ (q n k : ℕ) where
       let s = first-zero (settingsRefusal q n k) (refuseUnless (leb (gaussian q n k) greatestListing) listingRefusal ∷ []) e in
       record {
         settings = accepted q n k (s .0);
-        few = leb-true (gaussian q n k) greatestListing (test-zero (leb (gaussian q n k) greatestListing) 11 [] (s .1) .0);
+        few = leb-true (gaussian q n k) greatestListing (test-zero (leb (gaussian q n k) greatestListing) listingRefusal [] tt (s .1) .0);
       }
 
   pub lines-append : (i a b : ℕ) → linesFrom q n k i (a + b) ≡ linesFrom q n k i a ++ linesFrom q n k (i + a) b

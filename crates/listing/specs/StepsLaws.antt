@@ -16,7 +16,7 @@ use borrow.Author.Tests.{eq-eqb, ne-eqb, eqb-true, ltb-true, lt-ltb, le-ltb}
 use lib.Dec.{eqb, ltb}
 use lib.ListN.{length}
 use Rattle.basics.specs.Order.{le-or-lt}
-use Rattle.refusal.specs.Refusal.{line as lineRefusal}
+use Rattle.refusal.specs.Refusal.{lineRefusal}
 use Rattle.counts.specs.Gaussian.{gaussian}
 use Rattle.settings_line.specs.SettingsLine.{parsed}
 use Rattle.settings_line.specs.declared.Settings.{Settings}

@@ -1,9 +1,9 @@
 // Reduced matrices as bytes, row by row from the top. The functions ask that the matrix has its k×n bytes; the calls above test it.
 ghost use mathlib.Core.Path.{_≡_};
-ghost use mathlib.Core.Bool.{true};
 ghost use Prim.Native.Nat.{ℕ, suc, _+_, _*_, _^_, _/_, _%_, _≤_, _<_};
 ghost use lib.Dec.{eqb};
 ghost use lib.ListN.{length, getD, replicate};
+ghost use Rattle.basics.specs.Choice.{pick};
 ghost use Rattle.matrix.specs.Matrix.{entry, lead as leadOf, pivot, entriesBelow, isReduced, Reduced, identifying as vectorOf};
 ghost use Rattle.matrix.specs.Shape.{topValue};
 ghost use Rattle.matrix.specs.Written.{digitAt, unitAt, Blank, Written};
@@ -87,7 +87,7 @@ fn pivot_of(m: &[u8], n: usize, k: usize, i: usize) -> usize
     lead(m, i * n, n)
 }
 
-// Whether a matrix is reduced, and its identifying vector where it is.
+// Whether a matrix is reduced, and its identifying vector; 0 where it is not.
 pub struct Found {
     pub reduced: bool,
     pub vector: u16,
@@ -97,7 +97,8 @@ pub struct Found {
 // and the next one: below a pivot there are zeros, as the pivots lie farther and farther to the right.
 pub fn reduced_vector(m: &[u8], n: usize, k: usize) -> Found
     requires { ⌜ (n ≤ 16) × (length (now m) ≡ k * n) ⌝ }
-    ensures { λ r. ⌜ (r .reduced ≡ isReduced n k (now (m .entry))) × (r .reduced ≡ true → r .vector ≡ vectorOf n k (now (m .entry))) ⌝ }
+    ensures { λ r. ⌜ (r .reduced ≡ isReduced n k (now (m .entry)))
+        × (r .vector ≡ pick (isReduced n k (now (m .entry))) (vectorOf n k (now (m .entry))) 0) ⌝ }
 {
     let mut vector: u16 = 0;
     let mut p = pivot_of(m, n, k, 0);

@@ -1,10 +1,122 @@
-// The public calls. Each tests in document 01's order, and then calls one proved function.
-pub mod answer;
-pub mod choice;
-pub mod convert;
-pub mod draw;
-pub mod number;
-pub mod receive;
-pub mod receiver;
-pub mod reduce;
-mod space;
+// The functions for C: the pack's firmware calls Draw, the cabinet's daemon calls Receive.
+ghost use mathlib.Core.Path.{_≡_};
+ghost use mathlib.Core.List.{[], _∷_, _++_};
+ghost use Prim.Native.Nat.{_<_};
+ghost use lib.ListN.{length};
+ghost use Rattle.draw.specs.Draw.{drawRefusal, drawBuffer};
+ghost use Rattle.numbering.specs.Numbering.{indexValue};
+ghost use Rattle.receive.specs.Answer.{receivedNumber, receivedDimension};
+ghost use Rattle.pandrwyg.specs.Exported.{answerSize, bytesOf, leftBytes, exportedRefusal, exportedOf, exportedNumber, exportedBytes};
+use receive::Received;
+
+// Draw for C: writes the reduced matrix with the given index of the numbering t. Refuses 1, 2, 3, 10, 4 (the buffer is not exactly k×n
+// bytes), 5, and then leaves the buffer.
+#[no_mangle]
+pub extern "C" fn pandrwyg_draw(
+    q: u64,
+    n: u64,
+    k: u64,
+    t: u64,
+    index: u64,
+    matrix: &mut [u8],
+) -> u32
+    ensures { λ r. ⌜ r ≡ drawRefusal q n k t index (length (now (matrix .entry))) ⌝ }
+    ensures { λ _. ⌜ now (matrix .exit) ≡ drawBuffer q n k t index (now (matrix .entry)) ⌝ }
+{
+    draw::draw(q, n, k, t, index, matrix)
+}
+
+// The bytes of a lent answer: the index, then the dimension.
+const ANSWER_SIZE: usize = 9;
+
+// Writes a lent answer: the index, least byte first, then the dimension.
+fn write_answer(answer: &mut [u8], index: u64, dimension: u64)
+    requires { ⌜ (length (now answer) ≡ answerSize) × (dimension < 256) ⌝ }
+    ensures { λ _. ⌜ now (answer .exit) ≡ bytesOf 8 index ++ (dimension ∷ []) ⌝ }
+{
+    let mut rest = index;
+    let mut i = 0;
+    while i < 8 {
+        answer[i] = (rest % 256) as u8;
+        rest = rest / 256;
+        i += 1;
+    }
+    answer[8] = dimension as u8;
+}
+
+// The number of an index, whichever numbering it is of.
+fn index_value(index: numbering::Index) -> u64
+    ensures { λ r. ⌜ r ≡ indexValue index ⌝ }
+{
+    match index {
+        numbering::Index::Extended(i) => i.0,
+        numbering::Index::Ferrers(i) => i.0,
+    }
+}
+
+// Leaves what was received in the lent answer, and gives its refusal number.
+fn leave(received: Received, k: u64, answer: &mut [u8]) -> u32
+    requires { ⌜ (length (now answer) ≡ answerSize) × (receivedDimension k received < 256) ⌝ }
+    ensures { λ r. ⌜ r ≡ receivedNumber received ⌝ }
+    ensures { λ _. ⌜ now (answer .exit) ≡ leftBytes k (now (answer .entry)) received ⌝ }
+{
+    match received {
+        Received::Done(index) => {
+            write_answer(answer, index_value(index), k);
+            0
+        }
+        Received::TooFew(space) => {
+            write_answer(answer, 0, space.dimension);
+            refusal::TOO_FEW
+        }
+        Received::TooMany(space) => {
+            write_answer(answer, 0, space.dimension);
+            refusal::TOO_MANY
+        }
+        Received::Refused(refusal) => refusal,
+    }
+}
+
+// The first refusal of Receive with a lent answer of `size` bytes that applies, but for 8 and 9; 0 where none does.
+fn exported_refusal(q: u64, n: u64, k: u64, t: u64, row_count: u64, rows: &[u8], size: usize) -> u32
+    ensures { λ r. ⌜ r ≡ exportedRefusal q n k t «row_count» (now (rows .entry)) size ⌝ }
+{
+    let refusal = receive::rows_refusal(q, n, k, t, row_count, rows.len());
+    if refusal != 0 {
+        return refusal;
+    }
+    if size != ANSWER_SIZE {
+        return refusal::LENGTH;
+    }
+    if !matrix::entries_below(rows, q) {
+        return refusal::ENTRY;
+    }
+    0
+}
+
+// Receive for C: the answer is a lent buffer of nine bytes, the index, least byte first, then the dimension. Refuses as Receive does, and 4
+// if the answer isn't nine bytes, after the rows' length. 8 and 9 leave index bytes of 0 and the dimension; other refusals leave the answer.
+#[no_mangle]
+pub extern "C" fn pandrwyg_receive(
+    q: u64,
+    n: u64,
+    k: u64,
+    t: u64,
+    row_count: u64,
+    rows: &[u8],
+    answer: &mut [u8],
+) -> u32
+    ensures { λ r. ⌜ r ≡ receivedNumber (exportedOf q n k t «row_count» (now (rows .entry)) (length (now (answer .entry)))) ⌝ }
+    ensures { λ _. ⌜ now (answer .exit) ≡ exportedBytes q n k t «row_count» (now (rows .entry)) (now (answer .entry)) ⌝ }
+    ensures { λ r. ⌜ r ≡ exportedNumber q n k t «row_count» (now (rows .entry)) (length (now (answer .entry))) ⌝ }
+{
+    let refusal = exported_refusal(q, n, k, t, row_count, rows, answer.len());
+    if refusal != 0 {
+        return refusal;
+    }
+    leave(
+        receive::reduced_answer(q, n, k, t, row_count, rows),
+        k,
+        answer,
+    )
+}

@@ -3,6 +3,7 @@
 -- close after the list too, gets this receiver or, once there was a Take, the one that the last Take handed back or left."
 --   Offer            == what is offered to Take: a row
 --   Call             == Take by value, Take on a lent receiver, Close
+--   begun q n k      == the receiver that Start hands back
 --   after r cs       == the receiver after the calls cs
 --   accepted r cs    == the rows of cs, in their order, for which Take named no refusal
 --   Reachable r      == an accepted Start leaves r, or a Take of a receiver that is reachable
@@ -16,12 +17,12 @@ use Prim.Native.Nat.{ℕ}
 use lib.Dec.{eqb}
 use lib.ListN.{length}
 use Rattle.basics.specs.Choice.{pick}
-use Rattle.refusal.specs.Refusal.{receiver as receiverRefusal}
+use Rattle.refusal.specs.Refusal.{receiverRefusal}
 use Rattle.settings.specs.Settings.{settingsRefusal}
 use Rattle.matrix.specs.Matrix.{entriesBelow}
-use Rattle.pandrwyg.specs.Reception.{receivedNumber}
-use Rattle.pandrwyg.specs.Receiver.{startOf, takeOf, lentReceiver, lentAnswer, closeOf, takeNumber}
-use Rattle.pandrwyg.specs.declared.receiver.Receiver.{Receiver}
+use Rattle.receive.specs.Answer.{receivedNumber}
+use Rattle.receiver.specs.Receiver.{startOf, takeOf, lentReceiver, lentAnswer, closeOf, takeNumber}
+use Rattle.receiver.specs.declared.Receiver.{Receiver}
 
 pub record Offer : Type 0 where
   pub row : List ℕ
@@ -46,8 +47,12 @@ accepted r (takeLent o ∷ cs) =
     pick (eqb (takeNumber (lentAnswer r (o .row))) 0) (o .row ∷ accepted (lentReceiver r (o .row)) cs) (accepted (lentReceiver r (o .row)) cs)
 accepted r (close t ∷ cs) = accepted r cs
 
+-- the receiver that Start hands back
+abbrev pub begun : ℕ → ℕ → ℕ → Receiver
+begun q n k = (startOf q n k) .receiver
+
 pub data Reachable : Receiver → Type 0 where
-  started : (q n k : ℕ) → settingsRefusal q n k ≡ 0 → Reachable ((startOf q n k) .receiver)
+  started : (q n k : ℕ) → settingsRefusal q n k ≡ 0 → Reachable (begun q n k)
   taken : (r : Receiver) (row : List ℕ) → Reachable r → Reachable ((takeOf r row) .receiver)
 
 -- the refusal of a call

@@ -1,33 +1,43 @@
--- Demand 3, as one statement for settings and a numbering that are accepted. Document 01: "A listing by Draw is told by separate draws:
--- every index below N gives a reduced k×n matrix, unrefused; each such matrix comes from exactly one of these indexes; and of any two of
--- these indexes the smaller gives the matrix that comes first in the numbering's order." And the mission: "for EVERY list of Take and Close
--- calls whose accepted rows are mixtures of a drawn matrix's rows, closing gives the drawn index exactly when the rows span k dimensions,
--- else 8 with the true dimension; Receive alike."
---   Listing q n k t      == the sentence on the listing
---   indexAnswer t i      == the answer that is the index i of the numbering t
---   Recovery q n k t i cs == the sentence on lists of calls: what closing after the list cs answers where its rows are of the index i
---   Reception q n k t i rows == the same for Receive of none to 64 such rows, and for the nine bytes of its C form
---   Demand q n k t       == all of it
+-- Demand 3, as one statement for settings and a numbering that are accepted. The user: "Suppose settings are accepted and have N spaces.
+-- Then, in either numbering, drawing 0 to N-1 lists every reduced k-by-n matrix exactly once, strictly rising in that numbering's order, the
+-- order told by comparing matrices alone. Draw any one of them, and let rows be mixed from its rows over the field, in whatever way and
+-- sequence. Then for every list of Take and Close calls on one receiver, refused ones included, from a fresh Start with these settings, in
+-- which every row accepted is such a mixture: closing after it, in the draw's numbering, gives back the drawn index, unrefused, exactly when
+-- the accepted rows span k dimensions; if fewer, it refuses with 8 and their true dimension. Receive, given none to 64 such rows in one
+-- call, in that numbering, answers alike for them." `Flat` says it once more, without a record, under the user's words.
+--   Listing q n k t      == drawing 0 to N-1. Document 01: "A listing by Draw is told by separate draws: every index below N gives a reduced
+--                           k×n matrix, unrefused; each such matrix comes from exactly one of these indexes; and of any two of these indexes
+--                           the smaller gives the matrix that comes first in the numbering's order."
+--   Answer               == what an answer tells in document 01's numbers: the refusal number, the index and the dimension
+--   told k a             == what an answer of Receive or Close tells
+--   littleEndian bytes   == the number that bytes tell, the first byte least: the sum of each times a power of 256
+--   read number bytes    == what C reads: the returned number, of the nine bytes the first eight as a number, and the ninth
+--   Answers q n k i rows answer == the rows have a dimension, and the answer is the index i, unrefused, exactly when it is k; 8 with the
+--                           dimension if that is fewer; and it is never more
+--   Recovery q n k t i cs == closing after the list cs answers so for the rows that were accepted
+--   Reception q n k t i rows == Receive of the rows answers so, by value and for C
+--   Demand q n k t       == all of it; and of every list of calls, mixtures or not: "No call of the list is refused 14. A row is accepted when
+--                           Take names no refusal for it, so here when it is n bytes, each below q."
 -- Assumes nothing.
 use mathlib.Core.Path.{_≡_}
 use mathlib.Core.Logic.{_↔_}
 use mathlib.Core.List.{List, [], _∷_, _++_}
-use Prim.Native.Nat.{ℕ, _*_, _<_, _≤_}
-use lib.Dec.{eqb}
-use lib.ListN.{length}
-use Rattle.basics.specs.Choice.{pick}
+use Prim.Native.Nat.{ℕ, _+_, _*_, _<_, _≤_}
+use lib.ListN.{length, getD, take}
 use Rattle.counts.specs.Gaussian.{gaussian}
 use Rattle.matrix.specs.Matrix.{Reduced}
 use Rattle.linear.specs.Span.{All, Mixed, rowsOf, HasDimension}
 use Rattle.linear.specs.Eliminate.{join}
-use Rattle.pandrwyg.specs.Numbering.{extended, before}
-use Rattle.pandrwyg.specs.Calls.{drawRefusal, drawBuffer}
-use Rattle.pandrwyg.specs.Reception.{receiveOf, exportedOf, exportedBytes, bytesOf}
-use Rattle.pandrwyg.specs.Receiver.{startOf, closeOf}
-use Rattle.pandrwyg.specs.declared.answer.Received.{Received}
-use Rattle.pandrwyg.specs.declared.answer.Received.the-variants.{Extended, Ferrers, TooFew}
-use Rattle.pandrwyg.specs.declared.receiver.Receiver.{Receiver}
-use Rattle.recovery.specs.Calls.{Call, after, accepted, offered, fitting, Unforged}
+use Rattle.numbering.specs.Numbering.{before, indexIn}
+use Rattle.draw.specs.Draw.{drawRefusal, drawBuffer}
+use Rattle.reduce.specs.Reduce.{mostRows}
+use Rattle.receive.specs.Answer.{receivedNumber, receivedIndex, receivedDimension}
+use Rattle.receive.specs.Receive.{receiveOf}
+use Rattle.receive.specs.declared.Received.{Received}
+use Rattle.receive.specs.declared.Received.the-variants.{Done}
+use Rattle.receiver.specs.Receiver.{closeOf}
+use Rattle.pandrwyg.specs.Exported.{answerSize, bytesOf, exportedNumber, exportedBytes}
+use Rattle.recovery.specs.Calls.{Call, begun, after, accepted, offered, fitting, Unforged}
 
 -- a buffer of the right length, whatever it holds
 abbrev pub Buffer : ℕ → ℕ → List ℕ → Type 0
@@ -42,36 +52,49 @@ pub record Listing (q n k t : ℕ) : Type 0 where
   pub rising : (i j : ℕ) → i < j → j < gaussian q n k → (a b : List ℕ) → Buffer n k a → Buffer n k b
       → before q n k t (drawBuffer q n k t i a) (drawBuffer q n k t j b)
 
-abbrev pub indexAnswer : ℕ → ℕ → Received
-indexAnswer t i = pick (eqb t extended) (Extended (record { 0 = i })) (Ferrers (record { 0 = i }))
+pub record Answer : Type 0 where
+  pub number : ℕ
+  pub index : ℕ
+  pub dimension : ℕ
 
--- the receiver that Start hands back
-abbrev pub begun : ℕ → ℕ → ℕ → Receiver
-begun q n k = (startOf q n k) .receiver
+abbrev pub told : ℕ → Received → Answer
+told k a = record { number = receivedNumber a; index = receivedIndex a; dimension = receivedDimension k a }
+
+unfoldable pub littleEndian : List ℕ → ℕ
+littleEndian [] = 0
+littleEndian (byte ∷ bytes) = byte + 256 * littleEndian bytes
+
+abbrev pub read : ℕ → List ℕ → Answer
+read number bytes = record { number = number; index = littleEndian (take 8 bytes); dimension = getD bytes 8 0 }
+
+pub record Answers (q n k i : ℕ) (rows : List (List ℕ)) (answer : Answer) : Type 0 where
+  pub some : (d : ℕ) × HasDimension q n rows d
+  pub whole : (answer ≡ record { number = 0; index = i; dimension = k }) ↔ HasDimension q n rows k
+  pub fewer : (d : ℕ) → HasDimension q n rows d → d < k → answer ≡ record { number = 8; index = 0; dimension = d }
+  pub never-more : (d : ℕ) → HasDimension q n rows d → d ≤ k
 
 pub record Recovery (q n k t i : ℕ) (cs : List Call) : Type 0 where
-  pub unforged : Unforged (begun q n k) cs
-  pub fits : accepted (begun q n k) cs ≡ fitting q n (offered cs)
-  pub whole : (closeOf (after (begun q n k) cs) t ≡ indexAnswer t i) ↔ HasDimension q n (accepted (begun q n k) cs) k
-  pub fewer : (d : ℕ) → HasDimension q n (accepted (begun q n k) cs) d → d < k
-      → closeOf (after (begun q n k) cs) t ≡ TooFew (record { dimension = d })
-  pub never-more : (d : ℕ) → HasDimension q n (accepted (begun q n k) cs) d → d ≤ k
+  pub answers : Answers q n k i (accepted (begun q n k) cs) (told k (closeOf (after (begun q n k) cs) t))
+  pub typed : HasDimension q n (accepted (begun q n k) cs) k → closeOf (after (begun q n k) cs) t ≡ Done (indexIn t i)
 
 pub record Reception (q n k t i : ℕ) (rows : List (List ℕ)) : Type 0 where
-  pub whole : (receiveOf q n k t (length rows) (join rows) ≡ indexAnswer t i) ↔ HasDimension q n rows k
-  pub fewer : (d : ℕ) → HasDimension q n rows d → d < k → receiveOf q n k t (length rows) (join rows) ≡ TooFew (record { dimension = d })
-  pub never-more : (d : ℕ) → HasDimension q n rows d → d ≤ k
-  pub exported : exportedOf q n k t (length rows) (join rows) 9 ≡ receiveOf q n k t (length rows) (join rows)
-  pub whole-bytes : HasDimension q n rows k → (answer : List ℕ) → length answer ≡ 9
-      → exportedBytes q n k t (length rows) (join rows) answer ≡ bytesOf 8 i ++ (k ∷ [])
-  pub fewer-bytes : (d : ℕ) → HasDimension q n rows d → d < k → (answer : List ℕ) → length answer ≡ 9
-      → exportedBytes q n k t (length rows) (join rows) answer ≡ bytesOf 8 0 ++ (d ∷ [])
+  pub answers : Answers q n k i rows (told k (receiveOf q n k t (length rows) (join rows)))
+  pub typed : HasDimension q n rows k → receiveOf q n k t (length rows) (join rows) ≡ Done (indexIn t i)
+  pub exported : (b : List ℕ) → length b ≡ answerSize
+      → Answers q n k i rows
+      (read (exportedNumber q n k t (length rows) (join rows) answerSize) (exportedBytes q n k t (length rows) (join rows) b))
+  pub whole-bytes : (b : List ℕ) → length b ≡ answerSize → HasDimension q n rows k
+      → exportedBytes q n k t (length rows) (join rows) b ≡ bytesOf 8 i ++ (k ∷ [])
+  pub fewer-bytes : (b : List ℕ) → length b ≡ answerSize → (d : ℕ) → HasDimension q n rows d → d < k
+      → exportedBytes q n k t (length rows) (join rows) b ≡ bytesOf 8 0 ++ (d ∷ [])
 
 pub record Demand (q n k t : ℕ) : Type 0 where
   pub listing : Listing q n k t
+  pub unforged : (cs : List Call) → Unforged (begun q n k) cs
+  pub fits : (cs : List Call) → accepted (begun q n k) cs ≡ fitting q n (offered cs)
   pub recovery : (i : ℕ) → i < gaussian q n k → (b : List ℕ) → Buffer n k b → (cs : List Call)
       → All (Mixed q n (rowsOf n k (drawBuffer q n k t i b))) (accepted (begun q n k) cs)
       → Recovery q n k t i cs
-  pub reception : (i : ℕ) → i < gaussian q n k → (b : List ℕ) → Buffer n k b → (rows : List (List ℕ)) → length rows ≤ 64
+  pub reception : (i : ℕ) → i < gaussian q n k → (b : List ℕ) → Buffer n k b → (rows : List (List ℕ)) → length rows ≤ mostRows
       → All (Mixed q n (rowsOf n k (drawBuffer q n k t i b))) rows
       → Reception q n k t i rows

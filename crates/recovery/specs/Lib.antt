@@ -1,14 +1,8 @@
--- recovery: demand 3, the listing and the recovery of a drawn record from mixtures of its rows.
+-- recovery: demands 2 and 3, and what else is promised of spans.
 pub mod Calls
 pub mod Demand
-pub mod Fitting
-pub mod Holding
-pub mod Course
-pub mod After
-pub mod Reached
-pub mod Numberings
-pub mod Space
-pub mod Recovered
+pub mod laws
 pub mod Theorem
-pub mod Whole
-pub mod Numbered
+pub mod Flat
+pub mod Numbers
+pub mod Promises

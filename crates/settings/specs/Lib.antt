@@ -1,3 +1,3 @@
 -- settings: the settings that are accepted, and Count.
 pub mod Settings
-pub mod SettingsLaws
+pub mod laws

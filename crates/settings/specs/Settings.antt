@@ -2,16 +2,14 @@
 -- 2^64 - 1." "Count, from q, n, k: 1 if q is none of the four; 2 if n is outside 1 to 16 or k exceeds n; 3 if N exceeds 2^64 - 1."
 --   rowLengthOk n, shapeOk n k, countOk q n k == the tests behind 2 and 3
 --   settingsRefusal q n k == the first of 1, 2, 3 that applies, else 0; the calls that take settings begin with it
---   Accepted q n k    == what the settings obey that are not refused; `accepted` and `not-refused` of SettingsLaws show that it is exactly so
 --   countOf q n k     == what Count answers
 --   countNumber, countValue == document 01's refusal number and count of each case of the answer
 -- Assumes nothing.
 use mathlib.Core.Bool.{Bool, _&&_}
 use mathlib.Core.List.{[], _∷_}
-use Prim.Native.Nat.{ℕ, _≤_}
-use lib.Dec.{T, leb, eqb}
-use Rattle.basics.specs.Choice.{pick}
-use Rattle.refusal.specs.Refusal.{fieldSize, shape, count, refuseUnless, first}
+use Prim.Native.Nat.{ℕ}
+use lib.Dec.{leb}
+use Rattle.refusal.specs.Refusal.{fieldSizeRefusal, shapeRefusal, countRefusal, refuseUnless, first, unlessRefused}
 use Rattle.field.specs.Field.{isFieldSize}
 use Rattle.counts.specs.Gaussian.{gaussian, greatestCount}
 use Rattle.settings.specs.declared.Counted.{Counted}
@@ -29,20 +27,13 @@ countOk q n k = leb (gaussian q n k) greatestCount
 unfoldable pub settingsRefusal : ℕ → ℕ → ℕ → ℕ
 settingsRefusal q n k =
     first
-    (refuseUnless (isFieldSize q) fieldSize
-    ∷ refuseUnless (shapeOk n k) shape
-    ∷ refuseUnless (countOk q n k) count
+    (refuseUnless (isFieldSize q) fieldSizeRefusal
+    ∷ refuseUnless (shapeOk n k) shapeRefusal
+    ∷ refuseUnless (countOk q n k) countRefusal
     ∷ [])
 
-pub record Accepted (q n k : ℕ) : Type 0 where
-  pub size : T (isFieldSize q)
-  pub row : 1 ≤ n
-  pub narrow : n ≤ 16
-  pub dimension : k ≤ n
-  pub counted : gaussian q n k ≤ greatestCount
-
 unfoldable pub countOf : ℕ → ℕ → ℕ → Counted
-countOf q n k = pick (eqb (settingsRefusal q n k) 0) (Count (gaussian q n k)) (Refused (settingsRefusal q n k))
+countOf q n k = unlessRefused (settingsRefusal q n k) (Count (gaussian q n k)) (Refused (settingsRefusal q n k))
 
 abbrev pub countNumber : Counted → ℕ
 countNumber (Count n) = 0

@@ -1,6 +1,8 @@
 // The settings q, n and k that are accepted, and how many spaces they have.
 ghost use mathlib.Core.Path.{_≡_};
-ghost use Rattle.settings.specs.Settings.{rowLengthOk, settingsRefusal, countOf};
+ghost use Rattle.refusal.specs.Refusal.{unlessRefused};
+ghost use Rattle.counts.specs.Gaussian.{gaussian};
+ghost use Rattle.settings.specs.Settings.{rowLengthOk, settingsRefusal, countOf, countNumber, countValue};
 
 // What Count answers: the number of spaces, or the refusal.
 pub enum Counted {
@@ -37,6 +39,7 @@ pub fn settings_refusal(q: u64, n: u64, k: u64) -> u32
 // Count: the number of spaces. Refuses 1, 2, 3.
 pub fn count(q: u64, n: u64, k: u64) -> Counted
     ensures { λ r. ⌜ r ≡ countOf q n k ⌝ }
+    ensures { λ r. ⌜ (countNumber r ≡ settingsRefusal q n k) × (countValue r ≡ unlessRefused (settingsRefusal q n k) (gaussian q n k) 0) ⌝ }
 {
     let refusal = settings_refusal(q, n, k);
     if refusal != 0 {

@@ -3,7 +3,7 @@ use mathlib.Core.Path.{_≡_, _∙_, ap, sym}
 use mathlib.Core.Bool.{true}
 use native.Mathlib.Omega.{arith}
 use Rattle.counts.specs.Gaussian.{gaussian}
-use Rattle.settings.specs.SettingsLaws.{entry-of-accepted}
+use Rattle.settings.specs.laws.Accepted.{entry-of-accepted}
 use Rattle.listing.specs.Listing.{listRefusal}
 use Rattle.listing.specs.ListingLaws.{Listable, listable}
 use Rattle.listing.specs.Steps.{live, linesEnd}

@@ -2,8 +2,9 @@
 use mathlib.Core.Path.{_≡_, _∙_, sym}
 use native.Mathlib.Omega.{arith}
 use Rattle.counts.specs.Gaussian.{gaussian}
-use Rattle.settings.specs.Settings.{settingsRefusal, Accepted}
-use Rattle.settings.specs.SettingsLaws.{accepted, entry-of-accepted}
+use Rattle.settings.specs.Settings.{settingsRefusal}
+use Rattle.settings.specs.laws.Accepted.{Accepted}
+use Rattle.settings.specs.laws.Accepted.{accepted, entry-of-accepted}
 use Rattle.listing.specs.ListingLaws.{list-settings, list-large, list-none}
 use borrow.Author.Needs.{needs}
 use Rattle.listing.proofs.list_refusal.Statement.{statement}

@@ -1,11 +1,11 @@
 -- `matrix::reduced_vector` meets its contract: the rows passed hold the test and add up to the vector, and p is the next row's pivot.
-use mathlib.Core.Path.{_∙_, ap, sym, subst}
-use mathlib.Core.Bool.{false}
+use mathlib.Core.Path.{_∙_, ap, sym}
 use Prim.Native.Nat.{_-_}
 use native.Mathlib.Numerals.{add-one}
 use native.Mathlib.Omega.{arith}
 use borrow.Author.Tests.{not-true, not-false}
-use lib.Dec.{T}
+use Rattle.basics.specs.Choice.{pick}
+use Rattle.matrix.specs.Matrix.{identifying}
 use Rattle.matrix.specs.Decided.{pivotOf}
 use Rattle.matrix.specs.Gathered.{Gathered, gathered-start, gathered-fails, Gathering, gathered-step, gathered-end}
 use Rattle.matrix.proofs.reduced_vector.Statement.{statement}
@@ -39,10 +39,10 @@ row-reduced-requires c κs =
 
 returns : tie.Need-returns Inv-loop μ-loop
 returns c =
-    let t = c .before .before .before in (
-      sym (gathered-fails (t .before .loop .inv) (t .loop-test .taken) (sym (c .before .row-reduced .ensures) ∙ not-true _ (c .if1 .taken))),
-      λ e. let z : T false = subst T (sym e) tt in absurd z,
-    )
+    let t = c .before .before .before in
+    let a = t .before .before .before .before .args in
+    let fails = sym (gathered-fails (t .before .loop .inv) (t .loop-test .taken) (sym (c .before .row-reduced .ensures) ∙ not-true _ (c .if1 .taken))) in
+    (fails, ap (λ b. pick b (identifying (a .n) (a .k) (a .m .now)) 0) fails)
 
 gathering : (c : tie.Else1 Inv-loop μ-loop) →
     let l = c .before .before .before .before in let a = l .before .before .before .args in
@@ -82,7 +82,8 @@ loop-again c =
 returns-2 : tie.Need-returns-2 Inv-loop μ-loop
 returns-2 c =
     let e = gathered-end (c .before .loop .inv) (omega arith) (c .before .before .before .before .pre .1) in
-    (sym (e .0), λ t. e .1)
+    let a = c .before .before .before .before .args in
+    (sym (e .0), e .1 ∙ ap (λ b. pick b (identifying (a .n) (a .k) (a .m .now)) 0) (sym (e .0)))
 
 pub reduced-vector-spec : {M : Type 1} → statement M
 reduced-vector-spec =

@@ -2,9 +2,9 @@
 use mathlib.Core.Path.{_≡_, _∙_, sym, ap}
 use native.Mathlib.Omega.{arith}
 use borrow.Author.Needs.{needs}
-use borrow.Author.Tests.{eq-eqb, ne-eqb}
-use Rattle.settings.specs.Settings.{settingsRefusal, Accepted, countOf}
-use Rattle.settings.specs.SettingsLaws.{accepted, entry-of-accepted}
+use Rattle.refusal.specs.laws.First.{kept, done}
+use Rattle.settings.specs.Settings.{settingsRefusal, countOf}
+use Rattle.settings.specs.laws.Accepted.{Accepted, accepted, entry-of-accepted, count-told}
 use Rattle.settings.specs.declared.Counted.the-variants.{Count, Refused}
 use Rattle.settings.proofs.count.Statement.{statement}
 use Rattle.settings.proofs.count.Tie as tie
@@ -21,8 +21,9 @@ settings-refusal-requires c κs = search needs
 returns : tie.Need-returns
 unfolding countOf
 returns c =
-    ap Refused (c .before .settings-refusal .ensures)
-    ∙ sym (rw (ne-eqb (settingsRefusal _ _ _) 0 (λ e. c .if1 .taken (c .before .settings-refusal .ensures ∙ e))))
+    let told = c .before .settings-refusal .ensures in
+    let e = ap Refused told ∙ kept _ _ _ (λ z. c .if1 .taken (told ∙ z)) in
+    (e, count-told _ _ _ _ e)
 
 table-entry-requires : tie.Need-table-entry-requires
 table-entry-requires c κs = let a = settings c in (a .size, a .narrow, omega arith)
@@ -30,8 +31,8 @@ table-entry-requires c κs = let a = settings c in (a .size, a .narrow, omega ar
 returns-2 : tie.Need-returns-2
 unfolding countOf
 returns-2 c =
-    ap Count (c .table-entry .ensures ∙ entry-of-accepted _ _ _ (settings (c .before)))
-    ∙ sym (rw (eq-eqb (settingsRefusal _ _ _) 0 (unrefused (c .before))))
+    let e = ap Count (c .table-entry .ensures ∙ entry-of-accepted _ _ _ (settings (c .before))) ∙ done _ _ _ (unrefused (c .before)) in
+    (e, count-told _ _ _ _ e)
 
 pub count-spec : {M : Type 1} → statement M
 count-spec = tie.close (tie.spec settings-refusal-requires returns table-entry-requires returns-2)

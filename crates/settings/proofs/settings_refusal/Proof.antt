@@ -3,11 +3,12 @@ use mathlib.Core.Path.{_≡_, _∙_, sym}
 use mathlib.Core.Bool.{true}
 use native.Mathlib.Omega.{arith}
 use borrow.Author.Needs.{needs}
-use borrow.Author.Tests.{not-true, not-false}
+use borrow.Author.Tests.{not-true, not-false, lt-leb}
 use Rattle.basics.specs.Choice.{holds}
 use Rattle.field.specs.Field.{isFieldSize}
-use Rattle.settings.specs.Settings.{rowLengthOk}
-use Rattle.settings.specs.SettingsLaws.{refused-size, refused-row, refused-dimension, row-length-fits, count-accepted, count-refused}
+use Rattle.refusal.specs.laws.First.{test-refused, test-passed}
+use Rattle.settings.specs.Settings.{rowLengthOk, shapeOk, settingsRefusal}
+use Rattle.settings.specs.laws.Accepted.{row-length-fits, count-accepted, count-refused}
 use Rattle.settings.proofs.settings_refusal.Statement.{statement}
 use Rattle.settings.proofs.settings_refusal.Tie as tie
 
@@ -21,16 +22,24 @@ is-size-requires : tie.Need-is-size-requires
 is-size-requires c κs = search needs
 
 returns : tie.Need-returns
-returns c = sym (refused-size _ _ _ (sym (c .before .is-size .ensures) ∙ not-true _ (c .if1 .taken)))
+unfolding settingsRefusal
+returns c = sym (test-refused _ _ _ tt (sym (c .before .is-size .ensures) ∙ not-true _ (c .if1 .taken)))
 
 row-length-ok-requires : tie.Need-row-length-ok-requires
 row-length-ok-requires c κs = search needs
 
 returns-2 : tie.Need-returns-2
-returns-2 c = sym (refused-row _ _ _ (sized (c .before .before)) (sym (c .before .row-length-ok .ensures) ∙ not-true _ (c .if2 .taken)))
+unfolding settingsRefusal shapeOk
+returns-2 c =
+    let row = sym (c .before .row-length-ok .ensures) ∙ not-true _ (c .if2 .taken) in
+    sym (test-passed _ _ _ (sized (c .before .before)) ∙ test-refused _ _ _ tt (rw row))
 
 returns-3 : tie.Need-returns-3
-returns-3 c = sym (refused-dimension _ _ _ (sized (c .before .before .before)) (long-enough (c .before)) (c .if3 .taken))
+unfolding settingsRefusal shapeOk
+returns-3 c =
+    sym
+    (test-passed _ _ _ (sized (c .before .before .before))
+    ∙ test-refused _ _ _ tt (rw (long-enough (c .before), lt-leb _ _ (c .if3 .taken))))
 
 coefficient-requires : tie.Need-coefficient-requires
 coefficient-requires c κs =

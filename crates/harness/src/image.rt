@@ -1,0 +1,122 @@
+// Flat shims for the receiver's calls: the receiver passes as its image, field by field.
+use crate::Answer;
+use receive::Received;
+use receiver::Receiver;
+use receiver::TakeAnswer;
+use receiver::Taken;
+use reduce::Space;
+
+#[repr(C)]
+pub struct Image {
+    pub entries: [u8; 256],
+    pub q: u64,
+    pub n: u64,
+    pub k: u64,
+    pub dimension: u64,
+}
+
+// What Start and Take leave: the receiver, the refusal or 0, and 1 where the dimension grew.
+#[repr(C)]
+pub struct Step {
+    pub image: Image,
+    pub refusal: u32,
+    pub raised: u32,
+}
+
+fn image_of(receiver: Receiver) -> Image {
+    let entries = receiver.entries;
+    Image {
+        entries,
+        q: receiver.q,
+        n: receiver.n,
+        k: receiver.k,
+        dimension: receiver.dimension,
+    }
+}
+
+fn receiver_of(image: Image) -> Receiver {
+    let entries = image.entries;
+    Receiver {
+        entries,
+        q: image.q,
+        n: image.n,
+        k: image.k,
+        dimension: image.dimension,
+    }
+}
+
+fn step_of(receiver: Receiver, refusal: u32, raised: u32) -> Step {
+    Step {
+        image: image_of(receiver),
+        refusal,
+        raised,
+    }
+}
+
+#[no_mangle]
+pub extern "C" fn harness_start(q: u64, n: u64, k: u64) -> Step {
+    let started = receiver::start(q, n, k);
+    let receiver = started.receiver;
+    step_of(receiver, started.refusal, 0)
+}
+
+fn take_step(taken: Taken) -> Step {
+    let receiver = taken.receiver;
+    let answer = taken.answer;
+    match answer {
+        TakeAnswer::Raised => step_of(receiver, 0, 1),
+        TakeAnswer::Held => step_of(receiver, 0, 0),
+        TakeAnswer::Refused(refusal) => step_of(receiver, refusal, 0),
+    }
+}
+
+#[no_mangle]
+pub extern "C" fn harness_take(image: Image, row: &[u8]) -> Step {
+    take_step(receiver_of(image).take(row))
+}
+
+// Lends a local to Take, and hands back what is then in it.
+fn taken_lent(mut receiver: Receiver, row: &[u8]) -> Taken {
+    let answer = receiver::take_lent(&mut receiver, row);
+    Taken { receiver, answer }
+}
+
+#[no_mangle]
+pub extern "C" fn harness_take_lent(image: Image, row: &[u8]) -> Step {
+    take_step(taken_lent(receiver_of(image), row))
+}
+
+fn spanned(refusal: u32, space: Space) -> Answer {
+    Answer {
+        refusal,
+        value: 0,
+        dimension: space.dimension,
+    }
+}
+
+// What Receive and Close answer.
+fn received(answer: Received) -> Answer {
+    match answer {
+        Received::Done(index) => crate::done(crate::index_value(index)),
+        Received::TooFew(space) => spanned(refusal::TOO_FEW, space),
+        Received::TooMany(space) => spanned(refusal::TOO_MANY, space),
+        Received::Refused(refusal) => crate::refused(refusal),
+    }
+}
+
+#[no_mangle]
+pub extern "C" fn harness_close(image: Image, numbering: u64) -> Answer {
+    received(receiver_of(image).close(numbering))
+}
+
+#[no_mangle]
+pub extern "C" fn harness_receive(
+    q: u64,
+    n: u64,
+    k: u64,
+    numbering: u64,
+    row_count: u64,
+    rows: &[u8],
+) -> Answer {
+    received(receive::receive(q, n, k, numbering, row_count, rows))
+}

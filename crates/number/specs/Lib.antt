@@ -1,0 +1,3 @@
+-- number: the call Number.
+pub mod Number
+pub mod laws

@@ -1,0 +1,65 @@
+// The two numberings side by side: what stands for which, and the index and the matrix in either.
+ghost use mathlib.Core.Path.{_≡_};
+ghost use Prim.Native.Nat.{_*_, _<_};
+ghost use lib.ListN.{length};
+ghost use Rattle.counts.specs.Gaussian.{gaussian};
+ghost use Rattle.settings.specs.laws.Accepted.{Accepted};
+ghost use Rattle.matrix.specs.Matrix.{identifying, Reduced};
+ghost use Rattle.numbering.specs.Numbering.{isNumbering, choiceRefusal, indexIn, indexOf, drawn};
+use extended::ExtendedIndex;
+use ferrers::FerrersIndex;
+
+// The numberings of document 01.
+pub const EXTENDED: u64 = 1;
+
+pub const FERRERS: u64 = 2;
+
+// An index, with the numbering it is of.
+pub enum Index {
+    Extended(ExtendedIndex),
+    Ferrers(FerrersIndex),
+}
+
+// Whether t is one of the two numberings.
+pub fn is_numbering(t: u64) -> bool
+    ensures { λ r. ⌜ r ≡ isNumbering t ⌝ }
+{
+    t == EXTENDED || t == FERRERS
+}
+
+// The first of the refusals 1, 2, 3, 10 that applies; 0 where none does.
+pub fn choice_refusal(q: u64, n: u64, k: u64, t: u64) -> u32
+    ensures { λ r. ⌜ r ≡ choiceRefusal q n k t ⌝ }
+{
+    let settings = settings::settings_refusal(q, n, k);
+    if settings != 0 {
+        return settings;
+    }
+    if !is_numbering(t) {
+        return refusal::NUMBERING;
+    }
+    0
+}
+
+// The index of a reduced matrix in the numbering t; v is the identifying vector.
+pub fn rank(m: &[u8], q: u64, n: usize, k: usize, t: u64, v: u16) -> Index
+    requires { ⌜ Accepted q n k × Reduced q n k (now m) × (v ≡ identifying n k (now m)) ⌝ }
+    ensures { λ r. ⌜ r ≡ indexIn t (indexOf q n k t (now (m .entry))) ⌝ }
+{
+    if t == EXTENDED {
+        return Index::Extended(extended::rank(m, q, n, k, v));
+    }
+    Index::Ferrers(ferrers::rank(m, q, n, k, v))
+}
+
+// Writes the reduced matrix with the given index of the numbering t.
+pub fn unrank(m: &mut [u8], q: u64, n: usize, k: usize, t: u64, index: u64)
+    requires { ⌜ Accepted q n k × (index < gaussian q n k) × (length (now m) ≡ k * n) ⌝ }
+    ensures { λ _. ⌜ now (m .exit) ≡ drawn q n k t index ⌝ }
+{
+    if t == EXTENDED {
+        extended::unrank(m, q, n, k, ExtendedIndex(index));
+    } else {
+        ferrers::unrank(m, q, n, k, FerrersIndex(index));
+    }
+}

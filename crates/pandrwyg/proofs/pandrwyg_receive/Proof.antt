@@ -1,0 +1,73 @@
+-- `pandrwyg::pandrwyg_receive` meets its contract: a refusal leaves the answer, and what is not refused is written to it.
+use mathlib.Core.Path.{_≡_, _∙_, ap, sym, subst}
+use Prim.Native.Nat.{_<_}
+use native.Mathlib.Omega.{arith}
+use lib.ListN.{length}
+use Rattle.linear.specs.ReducedOf.{reduced-le}
+use Rattle.refusal.specs.laws.First.{kept, done}
+use Rattle.receive.specs.Answer.{receivedNumber, receivedDimension}
+use Rattle.receive.specs.laws.ReducedAnswer.{received-reduced}
+use Rattle.receive.specs.laws.Space.{space-small}
+use Rattle.receive.specs.declared.Received.the-variants.{Refused}
+use Rattle.pandrwyg.specs.Exported.{leftBytes, exportedRefusal, exportedOf, exportedNumber, exportedBytes}
+use Rattle.pandrwyg.specs.laws.ExportedAccepted.{exported-accepted, exported-told}
+use borrow.Author.Needs.{needs}
+use Rattle.pandrwyg.proofs.pandrwyg_receive.Statement.{statement}
+use Rattle.pandrwyg.proofs.pandrwyg_receive.Tie as tie
+
+unrefused : (c : tie.Else1) →
+    let a = c .before .before .before .before .args in
+    exportedRefusal (a .q) (a .n) (a .k) (a .t) (a .row-count) (a .rows .now) (length (a .answer .now)) ≡ 0
+unrefused c = sym (c .before .exported-refusal .ensures) ∙ c .if1 .left
+
+exported-refusal-requires : tie.Need-exported-refusal-requires
+exported-refusal-requires c κs = search needs
+
+returns : tie.Need-returns
+unfolding exportedOf exportedBytes exportedNumber
+returns c =
+    let a = c .before .before .before .before .args in
+    let e = c .before .exported-refusal .ensures in
+    let refusal = exportedRefusal (a .q) (a .n) (a .k) (a .t) (a .row-count) (a .rows .now) (length (a .answer .now)) in
+    let r = kept refusal _ (Refused refusal) (λ z. c .if1 .taken (e ∙ z)) in
+    let number = e ∙ ap receivedNumber r in
+    (number, (ap (leftBytes (a .k) (a .answer .now)) r, number ∙ exported-told _ _ _ _ _ _ (length (a .answer .now)) .number))
+
+reduced-answer-requires : tie.Need-reduced-answer-requires
+reduced-answer-requires c κs =
+    let a = exported-accepted _ _ _ _ _ _ _ (unrefused c) in (a .rows .choice, a .rows .few, a .rows .sized, a .below)
+
+leave-requires : tie.Need-leave-requires
+leave-requires c κs =
+    let x = c .before .before .before .before .before .before .args in
+    let a = exported-accepted _ _ _ _ _ _ _ (unrefused (c .before .before)) in
+    let s = a .rows .choice .settings in
+    let d = reduced-le _ _ _ _ (received-reduced (x .q) (x .n) (x .row-count) (x .rows .now) (s .size) (a .rows .sized) (a .below)) in (
+      a .room,
+      subst (λ r. receivedDimension (x .k) r < 256) (sym (c .before .reduced-answer .ensures))
+          (space-small (x .q) (x .n) (x .k) (x .t) _ 256 _ (omega (arith, s .narrow, s .dimension)) (omega (arith, s .narrow, d))),
+    )
+
+same-length : tie.Need-same-length
+same-length c = search needs
+
+returns-2 : tie.Need-returns-2
+unfolding exportedOf exportedBytes exportedNumber
+returns-2 c =
+    let l = c .before .before in
+    let b = l .before .before in
+    let a = b .before .before .before .before .before .args in
+    let r = b .reduced-answer .ensures ∙ done _ _ _ (unrefused (b .before)) in
+    let number = l .leave .ensures .0 ∙ ap receivedNumber r in
+    (number, (l .leave .ensures .1 ∙ ap (leftBytes (a .k) (a .answer .now)) r, number ∙ exported-told _ _ _ _ _ _ (length (a .answer .now)) .number))
+
+pub pandrwyg-receive-spec : {M : Type 1} → statement M
+pandrwyg-receive-spec =
+    tie.close
+    (tie.spec
+    exported-refusal-requires
+    returns
+    reduced-answer-requires
+    leave-requires
+    same-length
+    returns-2)

@@ -1,0 +1,164 @@
+-- `receive::reduced_answer` meets its contract: the reduced rows stand first in the array, and are a reduced matrix.
+use mathlib.Core.Path.{_≡_, ap, ap₂, _∙_, sym, subst}
+use mathlib.Core.List.{List, _++_}
+use Prim.Native.Nat.{ℕ, min, _+_, _*_, _-_, _≤_}
+use native.Mathlib.Nat.{min-eq-left, mul-le-mul}
+use native.Mathlib.Omega.{arith}
+use lib.ListN.{length, take, drop, replicate, length-take, length-drop, length-append, length-replicate, replicate-append-replicate}
+use lib.Seq.{take-at}
+use Rattle.matrix.specs.Decided.{entries-below}
+use Rattle.matrix.specs.Matrix.{pivot, Reduced}
+use Rattle.linear.specs.Span.{rowsOf}
+use Rattle.linear.specs.Eliminate.{reducedOf}
+use Rattle.receive.specs.Answer.{spaceAnswer}
+use Rattle.receive.specs.laws.ReducedAnswer.{received-reduced, received-most, received-fits, received-front, received-pivots}
+use borrow.Author.Needs.{needs}
+use Rattle.receive.proofs.reduced_answer.Statement.{statement}
+use Rattle.receive.proofs.reduced_answer.Tie as tie
+
+zeros : ℕ → List ℕ
+zeros n = replicate n 0
+
+part : {size : ℕ} (n : ℕ) → size ≤ n → length (take size (zeros n)) ≡ size
+unfolding zeros
+part {size} n h = length-take size (zeros n) ∙ ap (min size) (length-replicate n 0) ∙ min-eq-left h
+
+front : {size : ℕ} (n : ℕ) → size ≤ n → take size (zeros n) ≡ zeros size
+unfolding zeros
+front {size} n h =
+    let e : size + (n - size) ≡ n = omega arith in
+    ap (λ x. take size (replicate x 0)) (sym e) ∙ ap (take size) (sym (replicate-append-replicate size (n - size) 0))
+    ∙ take-at (zeros size) (zeros (n - size)) size (length-replicate size 0)
+
+square : {n : ℕ} → n ≤ 16 → n * n ≤ 256
+square {n} h = mul-le-mul {n₁ = n} {m₁ = n} {n₂ = 16} {m₂ = 16} h h
+
+mul-matrix : tie.Need-mul-matrix
+mul-matrix c = omega (arith, square (c .before .pre .0 .settings .narrow))
+
+array-borrow-prefix-matrix : tie.Need-array-borrow-prefix-matrix
+array-borrow-prefix-matrix c = square (c .before .pre .0 .settings .narrow)
+
+slice-aggregate-reduce : tie.Need-slice-aggregate-reduce
+unfolding zeros
+slice-aggregate-reduce c = sym (part 256 (square (c .before .before .pre .0 .settings .narrow)))
+
+slice-aggregate-reduce-2 : tie.Need-slice-aggregate-reduce-2
+slice-aggregate-reduce-2 c = search needs
+
+reduce-requires : tie.Need-reduce-requires
+unfolding zeros
+reduce-requires c κs =
+    let p = c .before .before .before .pre in
+    let h = p .0 .settings .narrow in
+    ((p .0 .settings .size, p .2, entries-below _ _ (p .3)), (front 256 (square h), h, omega (arith, h)))
+
+-- what the reduction leaves: its rows fit, and stand first in the array
+module _ (c : tie.After-reduce) where
+  rows-fit : let s = c .before .before .before .before in c .reduce .result * s .args .n ≤ 256
+  rows-fit =
+      let s = c .before .before .before .before in
+      received-fits (s .args .q) (s .args .n) (s .args .row-count) (s .args .rows .now) (s .pre .0 .settings .size) (s .pre .2) (s .pre .3)
+      (c .reduce .result) (c .reduce .ensures .0) (s .pre .0 .settings .narrow)
+
+  -- the array after the reduction
+  array : List ℕ
+  array = let n = c .before .before .before .before .args .n in c .reduce .last .1 .1 .1 .1 .0 ++ drop (n * n) (zeros 256)
+
+  array-front : let s = c .before .before .before .before in
+      take (c .reduce .result * s .args .n) array ≡ reducedOf (s .args .q) (s .args .n) (rowsOf (s .args .n) (s .args .row-count) (s .args .rows .now))
+  unfolding array
+  array-front =
+      let s = c .before .before .before .before in
+      received-front (s .args .q) (s .args .n) (s .args .row-count) (s .args .rows .now) (s .pre .0 .settings .size) (s .pre .2) (s .pre .3)
+      (c .reduce .result) (c .reduce .last .1 .1 .1 .1 .0) (drop (s .args .n * s .args .n) (zeros 256)) (c .reduce .ensures .0) (c .reduce .ensures .1 .0)
+
+  array-length : length array ≡ 256
+  unfolding array zeros
+  array-length =
+      let s = c .before .before .before .before in
+      let h : s .args .n * s .args .n ≤ 256 = square (s .pre .0 .settings .narrow) in
+      let l : length (c .reduce .last .1 .1 .1 .1 .0) ≡ s .args .n * s .args .n = c .reduce .kept .1 .1 .1 .1 .0 ∙ part 256 h in
+      length-append (c .reduce .last .1 .1 .1 .1 .0) (drop (s .args .n * s .args .n) (zeros 256))
+      ∙ omega (arith, l, h, length-drop (s .args .n * s .args .n) (zeros 256), length-replicate {A = ℕ} 256 0)
+
+  front-reduced : let s = c .before .before .before .before in
+      Reduced (s .args .q) (s .args .n) (c .reduce .result) (take (c .reduce .result * s .args .n) array)
+  front-reduced =
+      let s = c .before .before .before .before in
+      let r = received-reduced (s .args .q) (s .args .n) (s .args .row-count) (s .args .rows .now) (s .pre .0 .settings .size) (s .pre .2) (s .pre .3) in
+      subst (Reduced (s .args .q) (s .args .n) (c .reduce .result)) (sym array-front)
+      (subst (λ d. Reduced (s .args .q) (s .args .n) d (reducedOf (s .args .q) (s .args .n) (rowsOf (s .args .n) (s .args .row-count) (s .args .rows .now)))) (sym (c .reduce .ensures .0)) r)
+
+mul-size : tie.Need-mul-size
+mul-size c = omega (arith, rows-fit (c .before .before))
+
+array-share-prefix-matrix : tie.Need-array-share-prefix-matrix
+unfolding array zeros
+array-share-prefix-matrix c = omega (arith, rows-fit (c .before .before), array-length (c .before .before))
+
+slice-aggregate-vector-of : tie.Need-slice-aggregate-vector-of
+unfolding array zeros
+slice-aggregate-vector-of c = sym (front-reduced (c .before .before .before) .size)
+
+slice-aggregate-vector-of-2 : tie.Need-slice-aggregate-vector-of-2
+slice-aggregate-vector-of-2 c = search needs
+
+vector-of-requires : tie.Need-vector-of-requires
+unfolding array zeros
+vector-of-requires c κs =
+    let r = c .before .before .before .before in
+    let s = r .before .before .before .before in
+    let a = s .args in
+    let h = s .pre .0 .settings .narrow in
+    let most = received-most (a .q) (a .n) (a .row-count) (a .rows .now) (s .pre .0 .settings .size) (s .pre .2) (s .pre .3) (r .reduce .result) (r .reduce .ensures .0) in (
+      h,
+      (_, front-reduced r),
+      omega (arith, h, most, r .reduce .kept .1 .1 .1 .1 .1 .0),
+      λ i l.
+          received-pivots (a .q) (a .n) (a .row-count) (a .rows .now) (s .pre .0 .settings .size) (s .pre .2) (s .pre .3) (r .reduce .result) _
+          (r .reduce .ensures .0) (r .reduce .ensures .1 .1) i l
+          ∙ ap (λ m. pivot (a .n) m i) (sym (array-front r)),
+    )
+
+array-share-prefix-matrix-2 : tie.Need-array-share-prefix-matrix-2
+unfolding array zeros
+array-share-prefix-matrix-2 c =
+    let r = c .before .before .before .before .before in
+    omega (arith, rows-fit r, array-length r)
+
+slice-aggregate-space-answer : tie.Need-slice-aggregate-space-answer
+unfolding array zeros
+slice-aggregate-space-answer c = sym (front-reduced (c .before .before .before .before .before .before) .size)
+
+space-answer-requires : tie.Need-space-answer-requires
+unfolding array zeros
+space-answer-requires c κs =
+    let r = c .before .before .before .before .before .before in
+    (r .before .before .before .before .pre .0 .settings, front-reduced r, c .before .vector-of .ensures)
+
+returns : tie.Need-returns
+unfolding array zeros
+returns c =
+    let r = c .before .before .before .before .before .before .before in
+    let a = r .before .before .before .before .args in
+    c .space-answer .ensures ∙ ap₂ (spaceAnswer (a .q) (a .n) (a .k) (a .t)) (r .reduce .ensures .0) (array-front r)
+
+pub reduced-answer-spec : {M : Type 1} → statement M
+reduced-answer-spec =
+    tie.close
+    (tie.spec
+    mul-matrix
+    array-borrow-prefix-matrix
+    slice-aggregate-reduce
+    slice-aggregate-reduce-2
+    reduce-requires
+    mul-size
+    array-share-prefix-matrix
+    slice-aggregate-vector-of
+    slice-aggregate-vector-of-2
+    vector-of-requires
+    array-share-prefix-matrix-2
+    slice-aggregate-space-answer
+    space-answer-requires
+    returns)

@@ -1,0 +1,4 @@
+-- Lemmas; no part of the meaning.
+pub mod Space
+pub mod ReceiveAccepted
+pub mod ReducedAnswer

@@ -1,0 +1,60 @@
+-- `receive::reduced_answer`: the reduced matrix of the rows, at the front of the array that it is reduced in; no part of the meaning.
+--   received-reduced == the rows' reduced matrix is Reduced, with as many rows as their dimension
+--   received-most, received-fits == it has at most n rows, and its bytes are at most 256
+--   received-front   == they stand first in the array
+--   received-pivots  == the columns of its pivots, as the reduction leaves them
+-- Assumes nothing.
+use mathlib.Core.Path.{_≡_, ap, _∙_, sym}
+use mathlib.Core.List.{List, _++_, append-assoc}
+use Prim.Native.Nat.{ℕ, _*_, _≤_, _<_, _-_}
+use native.Mathlib.Nat.{mul-le-mul}
+use native.Mathlib.Omega.{arith}
+use lib.Dec.{T}
+use lib.ListN.{length, getD, take, replicate}
+use lib.Seq.{take-at, getD-take}
+use Rattle.field.specs.Decide.{laws}
+use Rattle.field.specs.Field.{isFieldSize}
+use Rattle.matrix.specs.Matrix.{entriesBelow, pivot, Reduced}
+use Rattle.matrix.specs.Decided.{entries-below}
+use Rattle.linear.specs.Span.{All, Row, rowsOf}
+use Rattle.linear.specs.Every.{all-of}
+use Rattle.linear.specs.Eliminate.{reducedRows, reducedOf, dimension}
+use Rattle.linear.specs.Flat.{join-pivot}
+use Rattle.linear.specs.FlatRows.{rows-valid}
+use Rattle.linear.specs.ReducedOf.{reducedRows-kept, reducedOf-reduced, dimension-le}
+use Rattle.linear.specs.ReducedRows.{rows-sized}
+use Rattle.reduction.specs.Padded.{padded}
+use Rattle.reduction.specs.Parts.{leads-at}
+use Rattle.reduction.specs.Steps.{leads}
+
+module _ (q n r : ℕ) (input : List ℕ) (field : T (isFieldSize q)) (sized : length input ≡ r * n) (below : T (entriesBelow q input)) where
+  pub received-rows : All (Row q n) (rowsOf n r input)
+  received-rows = rows-valid n q input r (omega arith) (all-of 0 input (entries-below q input below))
+
+  pub received-reduced : Reduced q n (dimension q n (rowsOf n r input)) (reducedOf q n (rowsOf n r input))
+  received-reduced = reducedOf-reduced q (laws q field) n (rowsOf n r input) received-rows
+
+  pub received-most : (d : ℕ) → d ≡ dimension q n (rowsOf n r input) → d ≤ n
+  received-most d e = omega (arith, dimension-le q (laws q field) n (rowsOf n r input) received-rows)
+
+  pub received-fits : (d : ℕ) → d ≡ dimension q n (rowsOf n r input) → n ≤ 16 → d * n ≤ 256
+  received-fits d e h =
+      mul-le-mul {n₁ = d} {m₁ = n} {n₂ = 16} {m₂ = 16} (omega (arith, received-most d e)) h
+
+  pub received-front : (d : ℕ) (filled rest : List ℕ) → d ≡ dimension q n (rowsOf n r input)
+      → filled ≡ padded (n * n) (reducedOf q n (rowsOf n r input)) → take (d * n) (filled ++ rest) ≡ reducedOf q n (rowsOf n r input)
+  unfolding padded
+  received-front d filled rest e f =
+      let m = reducedOf q n (rowsOf n r input) in
+      ap (λ x. take (d * n) (x ++ rest)) f
+      ∙ ap (take (d * n)) (append-assoc m (replicate (n * n - length m) 0) rest)
+      ∙ take-at m (replicate (n * n - length m) 0 ++ rest) (d * n) (received-reduced .size ∙ ap (λ x. x * n) (sym e))
+
+  pub received-pivots : (d : ℕ) (pivots : List ℕ) → d ≡ dimension q n (rowsOf n r input) → take d pivots ≡ leads n (reducedRows q n (rowsOf n r input))
+      → (i : ℕ) → i < d → getD pivots i 0 ≡ pivot n (reducedOf q n (rowsOf n r input)) i
+  unfolding dimension reducedOf
+  received-pivots d pivots e known i h =
+      let rows = reducedRows q n (rowsOf n r input) in
+      let kept = reducedRows-kept q (laws q field) n (rowsOf n r input) received-rows in
+      sym (getD-take d pivots i 0 h) ∙ ap (λ x. getD x i 0) known ∙ leads-at n rows i (omega (arith, e))
+      ∙ sym (join-pivot n (rows-sized q n (kept .rows)) i (omega (arith, e)))

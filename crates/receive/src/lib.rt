@@ -1,0 +1,93 @@
+// Receive: rows to index.
+ghost use mathlib.Core.Path.{_≡_};
+ghost use Prim.Native.Nat.{_*_, _≤_};
+ghost use lib.Dec.{T};
+ghost use lib.ListN.{length};
+ghost use Rattle.settings.specs.laws.Accepted.{Accepted};
+ghost use Rattle.matrix.specs.Matrix.{entriesBelow, identifying, Reduced};
+ghost use Rattle.linear.specs.Span.{rowsOf};
+ghost use Rattle.linear.specs.Eliminate.{reducedOf, dimension as dimensionOf};
+ghost use Rattle.numbering.specs.laws.Chosen.{Chosen};
+ghost use Rattle.reduce.specs.Reduce.{mostRows};
+ghost use Rattle.receive.specs.Answer.{spaceAnswer, Told};
+ghost use Rattle.receive.specs.Receive.{rowsRefusal, receiveRefusal, reducedAnswer, receiveOf};
+use numbering::Index;
+use reduce::Space;
+
+// What Receive and Close answer: the index, or that the rows span fewer or more than k dimensions, or another refusal.
+pub enum Received {
+    Done(Index),
+    TooFew(Space),
+    TooMany(Space),
+    Refused(u32),
+}
+
+// The answer for a span of d dimensions whose reduced matrix and identifying vector are given: its index where d is k, else too few or too
+// many.
+pub fn space_answer(q: u64, n: u64, k: u64, t: u64, d: u64, matrix: &[u8], vector: u16) -> Received
+    requires { ⌜ Accepted q n k × Reduced q n d (now matrix) × (vector ≡ identifying n d (now matrix)) ⌝ }
+    ensures { λ r. ⌜ r ≡ spaceAnswer q n k t d (now (matrix .entry)) ⌝ }
+{
+    if d < k {
+        return Received::TooFew(Space { dimension: d });
+    }
+    if k < d {
+        return Received::TooMany(Space { dimension: d });
+    }
+    Received::Done(numbering::rank(matrix, q, n as usize, k as usize, t, vector))
+}
+
+// The first of the refusals 1, 2, 3, 10, 13, 4 (the rows are not row_count×n bytes) that applies; 0 where none does.
+pub fn rows_refusal(q: u64, n: u64, k: u64, t: u64, row_count: u64, size: usize) -> u32
+    ensures { λ r. ⌜ r ≡ rowsRefusal q n k t «row_count» size ⌝ }
+{
+    let choice = numbering::choice_refusal(q, n, k, t);
+    if choice != 0 {
+        return choice;
+    }
+    if reduce::MOST_ROWS < row_count {
+        return refusal::ROW_COUNT;
+    }
+    if size as u64 != row_count * n {
+        return refusal::LENGTH;
+    }
+    0
+}
+
+// The answer for rows that are not refused: they are reduced, and the reduced matrix is numbered.
+pub fn reduced_answer(q: u64, n: u64, k: u64, t: u64, row_count: u64, rows: &[u8]) -> Received
+    requires { ⌜ Chosen q n k t × («row_count» ≤ mostRows) × (length (now rows) ≡ «row_count» * n) × T (entriesBelow q (now rows)) ⌝ }
+    ensures { λ r. ⌜ r ≡ reducedAnswer q n k t «row_count» (now (rows .entry)) ⌝ }
+{
+    let width = n as usize;
+    let mut matrix = [0u8; 256];
+    let mut pivots = [0u8; 16];
+    let d = reduction::reduce(
+        q,
+        width,
+        row_count as usize,
+        rows,
+        &mut matrix[..width * width],
+        &mut pivots,
+    );
+    let size = d * width;
+    let vector = matrix::vector_of(&matrix[..size], &pivots, width, d);
+    space_answer(q, n, k, t, d as u64, &matrix[..size], vector)
+}
+
+// Receive: the index of the space that the rows span, in the numbering t. Refuses 1, 2, 3, 10, 13, 4 (not exactly row_count×n bytes), 6;
+// 8 and 9, with the dimension, if the span has fewer or more than k dimensions.
+pub fn receive(q: u64, n: u64, k: u64, t: u64, row_count: u64, rows: &[u8]) -> Received
+    ensures { λ r. ⌜ r ≡ receiveOf q n k t «row_count» (now (rows .entry)) ⌝ }
+    ensures { λ r. ⌜ Told q n k t (dimensionOf q n (rowsOf n «row_count» (now (rows .entry)))) (reducedOf q n (rowsOf n «row_count» (now (rows .entry))))
+        (receiveRefusal q n k t «row_count» (now (rows .entry))) r ⌝ }
+{
+    let refusal = rows_refusal(q, n, k, t, row_count, rows.len());
+    if refusal != 0 {
+        return Received::Refused(refusal);
+    }
+    if !matrix::entries_below(rows, q) {
+        return Received::Refused(refusal::ENTRY);
+    }
+    reduced_answer(q, n, k, t, row_count, rows)
+}

@@ -1,0 +1,114 @@
+-- What Start, Take and Close answer for every input, and the receiver that each hands back or leaves. Document 01:
+--   empty q n k      == a receiver with the settings, 256 entries all zero, and dimension 0
+--   startOf q n k    == "Start a receiver: 1, 2, 3; a refused start gives a receiver of all zeros."
+--   startNumber      == document 01's refusal number of what Start hands back
+--   wellFormed r     == the test that Take and Close make before anything else: the settings are accepted, the dimension is at most n, the
+--                       first dimension×n entries are a reduced matrix, and all other entries are 0 (below 1). The theorem
+--                       `reachable-exactly-well-formed` shows that it holds exactly for the receivers that an accepted Start and Takes leave
+--   heldRows r       == the rows that the receiver holds
+--   holding q n k rows == the receiver that holds the reduced rows of `rows`
+--   takeRefusal      == "Take one row into a receiver: 14 if the receiver is none that Start and Take can leave after an accepted Start;
+--                       4 if the row isn't n bytes; 6."
+--   takeOf r row     == what Take hands back: the receiver with the row taken in, and "raised" if the dimension grew, "held" if not; "A
+--                       refused row gives only the number, and the receiver is handed back unchanged."
+--   lentReceiver, lentAnswer == the same for Take on a lent receiver: what it leaves, and what it answers
+--   closeOf r t      == "Close a receiver: 14, 10, 8, 9, the last two with the dimension."
+--   takeNumber, takeRaised == document 01's refusal number of each case of Take's answer, and the test that the case is "raised"
+-- Assumes nothing.
+use mathlib.Core.Bool.{Bool, true, false, _&&_}
+use mathlib.Core.List.{List, [], _∷_, _++_}
+use Prim.Native.Nat.{ℕ, _*_}
+use lib.Dec.{eqb, ltb, leb}
+use lib.ListN.{length, take, drop, replicate}
+use Rattle.basics.specs.Choice.{pick}
+use Rattle.refusal.specs.Refusal.{receiverRefusal, lengthRefusal, entryRefusal, numberingRefusal}
+use Rattle.refusal.specs.Refusal.{refuseUnless, first, unlessRefused}
+use Rattle.settings.specs.Settings.{settingsRefusal}
+use Rattle.matrix.specs.Matrix.{entriesBelow, isReduced}
+use Rattle.linear.specs.Span.{rowsOf}
+use Rattle.linear.specs.Eliminate.{reducedOf, dimension}
+use Rattle.reduction.specs.Padded.{padded}
+use Rattle.numbering.specs.Numbering.{isNumbering}
+use Rattle.receive.specs.Answer.{spaceAnswer}
+use Rattle.receive.specs.declared.Received.{Received}
+use Rattle.receive.specs.declared.Received.the-variants as received
+use Rattle.receiver.specs.declared.Receiver.{Receiver}
+use Rattle.receiver.specs.declared.Started.{Started}
+use Rattle.receiver.specs.declared.Taken.{Taken}
+use Rattle.receiver.specs.declared.TakeAnswer.{TakeAnswer}
+use Rattle.receiver.specs.declared.TakeAnswer.the-variants.{Raised, Held, Refused}
+
+abbrev pub empty : ℕ → ℕ → ℕ → Receiver
+empty q n k = record { entries = replicate 256 0; q = q; n = n; k = k; dimension = 0 }
+
+unfoldable pub startOf : ℕ → ℕ → ℕ → Started
+startOf q n k =
+    record { receiver = unlessRefused (settingsRefusal q n k) (empty q n k) (empty 0 0 0); refusal = settingsRefusal q n k }
+
+abbrev pub startNumber : Started → ℕ
+startNumber s = s .refusal
+
+-- the entries that the receiver uses
+abbrev pub used : Receiver → List ℕ
+used r = take (r .dimension * r .n) (r .entries)
+
+-- the entries after those
+abbrev pub unused : Receiver → List ℕ
+unused r = drop (r .dimension * r .n) (r .entries)
+
+unfoldable pub wellFormed : Receiver → Bool
+wellFormed r =
+    eqb (settingsRefusal (r .q) (r .n) (r .k)) 0
+    && (leb (r .dimension) (r .n)
+    && (entriesBelow (r .q) (used r)
+    && (entriesBelow 1 (unused r)
+    && isReduced (r .n) (r .dimension) (used r))))
+
+unfoldable pub heldRows : Receiver → List (List ℕ)
+heldRows r = rowsOf (r .n) (r .dimension) (r .entries)
+
+unfoldable pub holding : ℕ → ℕ → ℕ → List (List ℕ) → Receiver
+holding q n k rows =
+    record { entries = padded 256 (reducedOf q n rows); q = q; n = n; k = k; dimension = dimension q n rows }
+
+unfoldable pub takeRefusal : Receiver → List ℕ → ℕ
+takeRefusal r row =
+    first
+    (refuseUnless (wellFormed r) receiverRefusal
+    ∷ refuseUnless (eqb (length row) (r .n)) lengthRefusal
+    ∷ refuseUnless (entriesBelow (r .q) row) entryRefusal
+    ∷ [])
+
+-- the row taken in
+unfoldable pub takenIn : Receiver → List ℕ → Taken
+takenIn r row =
+    record {
+      receiver = holding (r .q) (r .n) (r .k) (heldRows r ++ (row ∷ []));
+      answer = pick (ltb (r .dimension) (dimension (r .q) (r .n) (heldRows r ++ (row ∷ [])))) Raised Held;
+    }
+
+unfoldable pub takeOf : Receiver → List ℕ → Taken
+takeOf r row = unlessRefused (takeRefusal r row) (takenIn r row) (record { receiver = r; answer = Refused (takeRefusal r row) })
+
+abbrev pub lentReceiver : Receiver → List ℕ → Receiver
+lentReceiver r row = (takeOf r row) .receiver
+
+abbrev pub lentAnswer : Receiver → List ℕ → TakeAnswer
+lentAnswer r row = (takeOf r row) .answer
+
+unfoldable pub closeRefusal : Receiver → ℕ → ℕ
+closeRefusal r t = first (refuseUnless (wellFormed r) receiverRefusal ∷ refuseUnless (isNumbering t) numberingRefusal ∷ [])
+
+unfoldable pub closeOf : Receiver → ℕ → Received
+closeOf r t =
+    unlessRefused (closeRefusal r t) (spaceAnswer (r .q) (r .n) (r .k) t (r .dimension) (used r)) (received.Refused (closeRefusal r t))
+
+abbrev pub takeNumber : TakeAnswer → ℕ
+takeNumber Raised = 0
+takeNumber Held = 0
+takeNumber (Refused r) = r
+
+abbrev pub takeRaised : TakeAnswer → Bool
+takeRaised Raised = true
+takeRaised Held = false
+takeRaised (Refused r) = false

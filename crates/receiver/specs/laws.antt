@@ -1,0 +1,6 @@
+-- Lemmas; no part of the meaning.
+pub mod Sound
+pub mod Held
+pub mod WellFormed
+pub mod TakeAccepted
+pub mod TakenIn

@@ -1,0 +1,129 @@
+-- A receiver and the rows that it holds; no part of the meaning.
+--   held-kept       == the rows of a Sound receiver are rows, reduced when joined
+--   held-again      == a Sound receiver is the one that holds its rows
+--   holding-size, holding-used, holding-rows, holding-sound == what the receiver that holds some rows has, and that it is Sound
+--   holding-none    == the receiver that holds no rows is empty
+-- Assumes nothing.
+use mathlib.Core.Path.{_≡_, refl, ap, ap₂, sym, _∙_, subst, subst₂}
+use mathlib.Core.List.{List, [], _++_}
+use Prim.Native.Nat.{ℕ, _+_, _*_, _-_, _≤_, _<_}
+use native.Mathlib.Omega.{arith}
+use lib.ListN.{length, getD, drop, replicate, length-append, length-drop, take-append-drop, length-replicate, getD-replicate}
+use lib.Seq.{take-at, getD-drop, getD-append-add, ext-getD}
+use Rattle.field.specs.Laws.{Laws}
+use Rattle.field.specs.Decide.{laws}
+use Rattle.settings.specs.Settings.{settingsRefusal}
+use Rattle.settings.specs.laws.Accepted.{accepted}
+use Rattle.matrix.specs.Matrix.{Reduced}
+use Rattle.linear.specs.Span.{All, Row, rowsOf}
+use Rattle.linear.specs.Eliminate.{join, insertRows, reducedRows, reducedOf, dimension}
+use Rattle.linear.specs.Flat.{rows-length, join-rows}
+use Rattle.linear.specs.FlatRows.{rows-joined, join-taken}
+use Rattle.linear.specs.InsertMany.{Kept}
+use Rattle.linear.specs.ReducedOf.{reducedRows-kept, reducedOf-reduced, dimension-le}
+use Rattle.linear.specs.ReducedRows.{reduced-rows, rows-sized}
+use Rattle.linear.specs.SameMatrix.{reducedRows-again}
+use Rattle.reduction.specs.Padded.{padded}
+use Rattle.receiver.specs.Receiver.{empty, used, heldRows, holding}
+use Rattle.receiver.specs.laws.Sound.{Sound, used-fit}
+use Rattle.receiver.specs.declared.Receiver.{Receiver}
+
+pub settings-laws : (q n k : ℕ) → settingsRefusal q n k ≡ 0 → Laws q
+settings-laws q n k s = laws q (accepted q n k s .size)
+
+-- a list of zeros
+zeros : (l : List ℕ) (size : ℕ) → length l ≡ size → ((i : ℕ) → i < size → getD l i 0 ≡ 0) → l ≡ replicate size 0
+zeros l size e z =
+    ext-getD 0 l (replicate size 0) (e ∙ sym (length-replicate size 0))
+    (λ i h. let g : i < size = omega arith in z i g ∙ sym (getD-replicate size i 0 0 g))
+
+module _ (r : Receiver) (size : length (r .entries) ≡ 256) (s : Sound r) where
+  held-used : heldRows r ≡ rowsOf (r .n) (r .dimension) (used r)
+  unfolding heldRows
+  held-used =
+      ap (rowsOf (r .n) (r .dimension)) (sym (take-append-drop (r .dimension * r .n) (r .entries)))
+      ∙ ap₂ (λ d m. rowsOf (r .n) d (m ++ drop (r .dimension * r .n) (r .entries))) (sym (rows-length (r .n) (r .dimension) (used r)))
+      (sym (join-rows (r .n) (r .dimension) (used r) (s .reduced .size)))
+      ∙ rows-joined (r .n) (drop (r .dimension * r .n) (r .entries)) (rows-sized (r .q) (r .n) (reduced-rows (r .q) (r .n) (s .reduced)))
+
+  pub held-join : join (heldRows r) ≡ used r
+  unfolding heldRows
+  held-join = join-taken (r .n) (r .entries) (r .dimension)
+
+  pub held-length : length (heldRows r) ≡ r .dimension
+  unfolding heldRows
+  held-length = rows-length (r .n) (r .dimension) (r .entries)
+
+  pub held-kept : Kept (r .q) (r .n) (heldRows r)
+  held-kept =
+      record {
+        rows = subst (All (Row (r .q) (r .n))) (sym held-used) (reduced-rows (r .q) (r .n) (s .reduced));
+        reduced = subst₂ (Reduced (r .q) (r .n)) (sym held-length) (sym held-join) (s .reduced);
+      }
+
+  -- past the entries that are used, however many of them are passed over
+  pub rest-zero : (i : ℕ) → r .dimension * r .n ≤ i → drop i (r .entries) ≡ replicate (256 - i) 0
+  rest-zero i h =
+      zeros (drop i (r .entries)) (256 - i) (length-drop i (r .entries) ∙ omega arith)
+      (λ j g. getD-drop i (r .entries) j 0 ∙ s .rest (i + j) (omega arith) (omega arith))
+
+  pub held-again : r ≡ holding (r .q) (r .n) (r .k) (heldRows r)
+  unfolding holding dimension reducedOf padded
+  held-again =
+      ap₂ (λ (e : List ℕ) (d : ℕ). record { entries = e; q = r .q; n = r .n; k = r .k; dimension = d }) entries
+      (sym (ap length again ∙ held-length))
+    where
+      again : reducedRows (r .q) (r .n) (heldRows r) ≡ heldRows r
+      again = reducedRows-again (r .q) (settings-laws (r .q) (r .n) (r .k) (s .settings)) (r .n) (heldRows r) (held-kept .rows) (held-kept .reduced)
+
+      entries : r .entries ≡ padded 256 (reducedOf (r .q) (r .n) (heldRows r))
+      entries =
+          sym (take-append-drop (r .dimension * r .n) (r .entries))
+          ∙ ap (λ (x : List ℕ). used r ++ x) (rest-zero (r .dimension * r .n) (omega arith))
+          ∙ ap (λ x. used r ++ replicate (256 - x) 0) (sym (s .reduced .size))
+          ∙ ap (padded 256) (sym (ap join again ∙ held-join))
+
+module _ (q n k : ℕ) (settings : settingsRefusal q n k ≡ 0) (rows : List (List ℕ)) (h : All (Row q n) rows) where
+  law : Laws q
+  law = settings-laws q n k settings
+
+  fit : dimension q n rows * n ≤ 256
+  fit = used-fit q n k (dimension q n rows) settings (dimension-le q law n rows h)
+
+  sized : length (reducedOf q n rows) ≡ dimension q n rows * n
+  sized = reducedOf-reduced q law n rows h .size
+
+  pub holding-size : length ((holding q n k rows) .entries) ≡ 256
+  unfolding holding padded
+  holding-size =
+      length-append (reducedOf q n rows) (replicate (256 - length (reducedOf q n rows)) 0)
+      ∙ omega (arith, length-replicate {A = ℕ} (256 - length (reducedOf q n rows)) 0, sized, fit)
+
+  pub holding-used : used (holding q n k rows) ≡ reducedOf q n rows
+  unfolding holding padded
+  holding-used = take-at (reducedOf q n rows) (replicate (256 - length (reducedOf q n rows)) 0) (dimension q n rows * n) sized
+
+  pub holding-rows : heldRows (holding q n k rows) ≡ reducedRows q n rows
+  unfolding holding padded heldRows dimension reducedOf
+  holding-rows = rows-joined n (replicate (256 - length (reducedOf q n rows)) 0) (rows-sized q n (reducedRows-kept q law n rows h .rows))
+
+  pub holding-sound : Sound (holding q n k rows)
+  unfolding holding padded
+  holding-sound =
+      record {
+        settings = settings;
+        fits = dimension-le q law n rows h;
+        reduced = subst (Reduced q n (dimension q n rows)) (sym holding-used) (reducedOf-reduced q law n rows h);
+        rest = rest;
+      }
+    where
+      rest : (i : ℕ) → i < 256 → dimension q n rows * n ≤ i → getD (padded 256 (reducedOf q n rows)) i 0 ≡ 0
+      rest i b g =
+          let e : i ≡ length (reducedOf q n rows) + (i - length (reducedOf q n rows)) = omega (arith, sized) in
+          ap (λ x. getD (padded 256 (reducedOf q n rows)) x 0) e
+          ∙ getD-append-add (reducedOf q n rows) (replicate (256 - length (reducedOf q n rows)) 0) (i - length (reducedOf q n rows)) 0
+          ∙ getD-replicate (256 - length (reducedOf q n rows)) (i - length (reducedOf q n rows)) 0 0 (omega (arith, sized))
+
+pub holding-none : (q n k : ℕ) → empty q n k ≡ holding q n k []
+unfolding holding padded reducedOf dimension reducedRows insertRows join
+holding-none q n k = refl

@@ -1,0 +1,36 @@
+-- `receiver::Receiver::well_formed`: the test of a receiver, part by part; no part of the meaning.
+--   formed-settings, -dimension, -entries, -rest == a part that fails, after those before it
+--   formed-shape            == the last part, after all others
+-- Assumes nothing.
+use mathlib.Core.Path.{_≡_}
+use mathlib.Core.Bool.{true, false}
+use Prim.Native.Nat.{_<_, _≤_}
+use borrow.Author.Tests.{eq-eqb, ne-eqb, le-leb, lt-leb}
+use Rattle.settings.specs.Settings.{settingsRefusal}
+use Rattle.matrix.specs.Matrix.{entriesBelow, isReduced}
+use Rattle.receiver.specs.Receiver.{used, unused, wellFormed}
+use Rattle.receiver.specs.declared.Receiver.{Receiver}
+
+module _ (r : Receiver) where
+  pub formed-settings : (settingsRefusal (r .q) (r .n) (r .k) ≡ 0 → ⊥) → false ≡ wellFormed r
+  unfolding wellFormed
+  formed-settings s = rw (ne-eqb (settingsRefusal (r .q) (r .n) (r .k)) 0 s)
+
+  module _ (s : settingsRefusal (r .q) (r .n) (r .k) ≡ 0) where
+    pub formed-dimension : r .n < r .dimension → false ≡ wellFormed r
+    unfolding wellFormed
+    formed-dimension h = rw (eq-eqb (settingsRefusal (r .q) (r .n) (r .k)) 0 s, lt-leb (r .dimension) (r .n) h)
+
+    module _ (h : r .dimension ≤ r .n) where
+      pub formed-entries : entriesBelow (r .q) (used r) ≡ false → false ≡ wellFormed r
+      unfolding wellFormed
+      formed-entries b = rw (eq-eqb (settingsRefusal (r .q) (r .n) (r .k)) 0 s, le-leb (r .dimension) (r .n) h, b)
+
+      pub formed-rest : entriesBelow (r .q) (used r) ≡ true → entriesBelow 1 (unused r) ≡ false → false ≡ wellFormed r
+      unfolding wellFormed
+      formed-rest b z = rw (eq-eqb (settingsRefusal (r .q) (r .n) (r .k)) 0 s, le-leb (r .dimension) (r .n) h, b, z)
+
+      pub formed-shape : entriesBelow (r .q) (used r) ≡ true → entriesBelow 1 (unused r) ≡ true
+          → isReduced (r .n) (r .dimension) (used r) ≡ wellFormed r
+      unfolding wellFormed
+      formed-shape b z = rw (eq-eqb (settingsRefusal (r .q) (r .n) (r .k)) 0 s, le-leb (r .dimension) (r .n) h, b, z)

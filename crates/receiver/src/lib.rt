@@ -1,0 +1,268 @@
+// The receiver: the reduced rows of all rows taken so far, and the settings.
+ghost use mathlib.Core.Path.{_≡_};
+ghost use Prim.Native.Nat.{_≤_};
+ghost use lib.Dec.{ltb};
+ghost use lib.ListN.{length};
+ghost use Rattle.basics.specs.Choice.{pick};
+ghost use Rattle.settings.specs.Settings.{settingsRefusal};
+ghost use Rattle.matrix.specs.Matrix.{identifying};
+ghost use Rattle.receive.specs.Answer.{Told};
+ghost use Rattle.receiver.specs.Receiver.{startOf, startNumber, used, wellFormed, takeRefusal, takenIn, takeOf, takeNumber, takeRaised};
+ghost use Rattle.receiver.specs.Receiver.{lentReceiver, lentAnswer, closeRefusal, closeOf};
+ghost use Rattle.receiver.specs.laws.TakeAccepted.{TakeAccepted};
+use receive::Received;
+
+// The first n×n entries hold the reduced rows, then zeros; so are all others.
+pub struct Receiver {
+    pub entries: [u8; 256],
+    pub q: u64,
+    pub n: u64,
+    pub k: u64,
+    pub dimension: u64,
+}
+
+// What Start answers: a receiver, and the refusal or 0.
+pub struct Started {
+    pub receiver: Receiver,
+    pub refusal: u32,
+}
+
+// What Take answers of a row.
+pub enum TakeAnswer {
+    Raised,
+    Held,
+    Refused(u32),
+}
+
+// The receiver handed back by Take, and the answer.
+pub struct Taken {
+    pub receiver: Receiver,
+    pub answer: TakeAnswer,
+}
+
+// Start: a receiver that holds no rows. Refuses 1, 2, 3, with a receiver of all zeros.
+pub fn start(q: u64, n: u64, k: u64) -> Started
+    ensures { λ r. ⌜ r ≡ startOf q n k ⌝ }
+    ensures { λ r. ⌜ startNumber r ≡ settingsRefusal q n k ⌝ }
+{
+    let refusal = settings::settings_refusal(q, n, k);
+    if refusal != 0 {
+        return Started {
+            receiver: Receiver {
+                entries: [0u8; 256],
+                q: 0,
+                n: 0,
+                k: 0,
+                dimension: 0,
+            },
+            refusal,
+        };
+    }
+    Started {
+        receiver: Receiver {
+            entries: [0u8; 256],
+            q,
+            n,
+            k,
+            dimension: 0,
+        },
+        refusal: 0,
+    }
+}
+
+// What the test of a receiver finds: whether it is one that Start and Take can leave, and its identifying vector; 0 where it is not.
+struct Formed {
+    formed: bool,
+    vector: u16,
+}
+
+// The refusal of a call on a receiver, and what the receiver's test found of the vector.
+struct Tested {
+    refusal: u32,
+    vector: u16,
+}
+
+impl Receiver {
+    // Whether the receiver is one that Start and Take can leave after an accepted Start. The dimension is known to be at most n, and n at
+    // most 16, before the two are multiplied.
+    fn well_formed(self) -> Formed
+        ensures { λ r. ⌜ (r .formed ≡ wellFormed self)
+            × (r .vector ≡ pick (wellFormed self) (identifying (self .n) (self .dimension) (used self)) 0) ⌝ }
+    {
+        if settings::settings_refusal(self.q, self.n, self.k) != 0 {
+            return Formed {
+                formed: false,
+                vector: 0,
+            };
+        }
+        if self.n < self.dimension {
+            return Formed {
+                formed: false,
+                vector: 0,
+            };
+        }
+        let entries = self.entries;
+        let size = (self.dimension * self.n) as usize;
+        if !matrix::entries_below(&entries[..size], self.q) {
+            return Formed {
+                formed: false,
+                vector: 0,
+            };
+        }
+        if !matrix::entries_below(&entries[size..], 1) {
+            return Formed {
+                formed: false,
+                vector: 0,
+            };
+        }
+        let found = matrix::reduced_vector(
+            &entries[..size],
+            self.n as usize,
+            self.dimension as usize,
+        );
+        Formed {
+            formed: found.reduced,
+            vector: found.vector,
+        }
+    }
+
+    // The first refusal of Take that applies; 0 where none does.
+    fn take_refusal(self, row: &[u8]) -> Tested
+        ensures { λ r. ⌜ (r .refusal ≡ takeRefusal self (now (row .entry)))
+            × (r .vector ≡ pick (wellFormed self) (identifying (self .n) (self .dimension) (used self)) 0) ⌝ }
+    {
+        let found = self.well_formed();
+        let vector = found.vector;
+        if !found.formed {
+            return Tested {
+                refusal: refusal::RECEIVER,
+                vector,
+            };
+        }
+        if row.len() as u64 != self.n {
+            return Tested {
+                refusal: refusal::LENGTH,
+                vector,
+            };
+        }
+        if !matrix::entries_below(row, self.q) {
+            return Tested {
+                refusal: refusal::ENTRY,
+                vector,
+            };
+        }
+        Tested { refusal: 0, vector }
+    }
+
+    // The first refusal of Close that applies, but for 8 and 9; 0 where none does.
+    fn close_refusal(self, t: u64) -> Tested
+        ensures { λ r. ⌜ (r .refusal ≡ closeRefusal self t)
+            × (r .vector ≡ pick (wellFormed self) (identifying (self .n) (self .dimension) (used self)) 0) ⌝ }
+    {
+        let found = self.well_formed();
+        let vector = found.vector;
+        if !found.formed {
+            return Tested {
+                refusal: refusal::RECEIVER,
+                vector,
+            };
+        }
+        if !numbering::is_numbering(t) {
+            return Tested {
+                refusal: refusal::NUMBERING,
+                vector,
+            };
+        }
+        Tested { refusal: 0, vector }
+    }
+
+    // The row taken in; every test has been made.
+    fn taken_in(self, row: &[u8]) -> Taken
+        requires { ⌜ TakeAccepted self (now row) ⌝ }
+        ensures { λ r. ⌜ r ≡ takenIn self (now (row .entry)) ⌝ }
+    {
+        let width = self.n as usize;
+        let size = width * width;
+        let before = self.dimension as usize;
+        let mut entries = self.entries;
+        let mut pivots = [0u8; 16];
+        reduction::find_leads(width, before, &entries[..size], &mut pivots);
+        let dimension = reduction::insert(
+            self.q,
+            width,
+            before,
+            row,
+            &mut entries[..size],
+            &mut pivots,
+        );
+        let receiver = Receiver {
+            entries,
+            q: self.q,
+            n: self.n,
+            k: self.k,
+            dimension: dimension as u64,
+        };
+        if before < dimension {
+            return Taken {
+                receiver,
+                answer: TakeAnswer::Raised,
+            };
+        }
+        Taken {
+            receiver,
+            answer: TakeAnswer::Held,
+        }
+    }
+
+    // Take: the receiver with the row taken in, and whether the dimension grew. Refuses 14, 4 (the row is not n bytes), 6, and then hands the
+    // receiver back unchanged.
+    pub fn take(self, row: &[u8]) -> Taken
+        ensures { λ r. ⌜ (r ≡ takeOf self (now (row .entry)))
+            × (takeNumber (r .answer) ≡ takeRefusal self (now (row .entry)))
+            × (takeRaised (r .answer) ≡ ltb (self .dimension) ((r .receiver) .dimension)) ⌝ }
+    {
+        let tested = self.take_refusal(row);
+        if tested.refusal != 0 {
+            return Taken {
+                receiver: self,
+                answer: TakeAnswer::Refused(tested.refusal),
+            };
+        }
+        self.taken_in(row)
+    }
+
+    // Close: the index, in the numbering t, of the space of all rows taken. Refuses 14, 10, 8, 9, the last two with the dimension. The
+    // receiver may take more rows.
+    pub fn close(self, t: u64) -> Received
+        ensures { λ r. ⌜ r ≡ closeOf self t ⌝ }
+        ensures { λ r. ⌜ Told (self .q) (self .n) (self .k) t (self .dimension) (used self) (closeRefusal self t) r ⌝ }
+    {
+        let tested = self.close_refusal(t);
+        if tested.refusal != 0 {
+            return Received::Refused(tested.refusal);
+        }
+        let entries = self.entries;
+        let size = (self.dimension * self.n) as usize;
+        receive::space_answer(
+            self.q,
+            self.n,
+            self.k,
+            t,
+            self.dimension,
+            &entries[..size],
+            tested.vector,
+        )
+    }
+}
+
+// Take on a lent receiver: copies it out, takes the row into the copy, and stores that back.
+pub fn take_lent(r: &mut Receiver, row: &[u8]) -> TakeAnswer
+    ensures { λ answer. ⌜ (answer ≡ lentAnswer (now (r .entry)) (now (row .entry)))
+        × (takeNumber answer ≡ takeRefusal (now (r .entry)) (now (row .entry)))
+        × (takeRaised answer ≡ ltb ((now (r .entry)) .dimension) ((lentReceiver (now (r .entry)) (now (row .entry))) .dimension)) ⌝ }
+    ensures { λ _. ⌜ now (r .exit) ≡ lentReceiver (now (r .entry)) (now (row .entry)) ⌝ }
+{
+    let t = (*r).take(row);
+    *r = t.receiver;
+    t.answer
+}

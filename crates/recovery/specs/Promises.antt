@@ -1,0 +1,80 @@
+-- What further sentences of document 01 promise of the calls, said of spans.
+--   reduce-spans   == "The output holds the reduced rows, then zeros; the answer is the dimension": where Reduce is not refused, it answers a d
+--                     that is the rows' dimension, and leaves a reduced matrix of d rows with their span, then zeros
+--   close-more     == closing more than k dimensions refuses with 9 and the true dimension
+--   receive-more   == so does Receive
+--   receive-agrees == by value Receive answers as its C form does with nine bytes
+-- Assumes nothing.
+use mathlib.Core.Path.{_≡_, refl, ap, sym, _∙_}
+use mathlib.Core.Bool.{true}
+use mathlib.Core.List.{List, _++_}
+use Prim.Native.Nat.{ℕ, _*_, _-_, _≤_, _<_}
+use native.Mathlib.Omega.{arith}
+use lib.ListN.{length, replicate}
+use Rattle.refusal.specs.laws.First.{done}
+use Rattle.field.specs.Decide.{laws}
+use Rattle.settings.specs.Settings.{settingsRefusal}
+use Rattle.matrix.specs.Matrix.{Reduced}
+use Rattle.linear.specs.Span.{All, Row, SameSpan, rowsOf, HasDimension}
+use Rattle.linear.specs.Eliminate.{join, reducedOf, dimension}
+use Rattle.linear.specs.ReducedOf.{reducedOf-reduced, reducedOf-span, dimension-has}
+use Rattle.reduction.specs.Padded.{padded}
+use Rattle.numbering.specs.Numbering.{isNumbering}
+use Rattle.reduce.specs.Reduce.{mostRows, reduceRefusal, reduceOf, reduceBuffer, reductionDimension}
+use Rattle.reduce.specs.laws.ReduceAccepted.{reduce-accepted, reduce-told}
+use Rattle.receive.specs.Answer.{spaceAnswer}
+use Rattle.receive.specs.Receive.{receiveOf}
+use Rattle.receive.specs.laws.ReducedAnswer.{received-rows}
+use Rattle.receive.specs.laws.Space.{space-many}
+use Rattle.receiver.specs.Receiver.{closeOf}
+use Rattle.receiver.specs.laws.Held.{settings-laws}
+use Rattle.pandrwyg.specs.Exported.{answerSize, exportedOf}
+use Rattle.pandrwyg.specs.laws.ExportedAccepted.{exported-receive}
+use Rattle.recovery.specs.Calls.{Call, begun, after, accepted}
+use Rattle.recovery.specs.Demand.{told}
+use Rattle.recovery.specs.laws.After.{accepted-rows}
+use Rattle.recovery.specs.laws.Recovered.{receive-rows, close-after}
+
+pub reduce-spans : (q n r : ℕ) (input output : List ℕ) → reduceRefusal q n r input (length output) ≡ 0
+    → (d : ℕ) × (m : List ℕ)
+    × (reductionDimension (reduceOf q n r input (length output)) ≡ d)
+    × HasDimension q n (rowsOf n r input) d
+    × (reduceBuffer q n r input output ≡ m ++ replicate (n * n - d * n) 0)
+    × Reduced q n d m
+    × SameSpan q n (rowsOf n d m) (rowsOf n r input)
+unfolding reduceBuffer padded
+reduce-spans q n r input output z =
+    let a = reduce-accepted q n r input (length output) z in
+    let rows = rowsOf n r input in
+    let law = laws q (a .field) in
+    let h = received-rows q n r input (a .field) (a .sized) (a .below) in
+    let R = reducedOf-reduced q law n rows h in (
+      dimension q n rows,
+      reducedOf q n rows,
+      reduce-told q n r input (length output) _ refl .1 ∙ sym (done _ _ _ z),
+      dimension-has q law n rows h (dimension q n rows) .1 refl,
+      sym (done _ _ _ z) ∙ ap (λ x. reducedOf q n rows ++ replicate (n * n - x) 0) (R .size),
+      R,
+      reducedOf-span q law n rows h,
+    )
+
+module _ (q n k t : ℕ) (settings : settingsRefusal q n k ≡ 0) (known : isNumbering t ≡ true) where
+  -- the answer for more than k dimensions
+  more : (rows : List (List ℕ)) → All (Row q n) rows → (d : ℕ) → HasDimension q n rows d → k < d
+      → told k (spaceAnswer q n k t (dimension q n rows) (reducedOf q n rows)) ≡ record { number = 9; index = 0; dimension = d }
+  more rows h d has g =
+      let e : dimension q n rows ≡ d = dimension-has q (settings-laws q n k settings) n rows h d .0 has in
+      ap (told k) (sym (space-many q n k t (dimension q n rows) (reducedOf q n rows) (omega arith) (omega arith)))
+      ∙ ap (λ x. record { number = 9; index = 0; dimension = x }) e
+
+  pub close-more : (cs : List Call) (d : ℕ) → HasDimension q n (accepted (begun q n k) cs) d → k < d
+      → told k (closeOf (after (begun q n k) cs) t) ≡ record { number = 9; index = 0; dimension = d }
+  close-more cs d has g =
+      ap (told k) (close-after q n k t settings known cs) ∙ more (accepted (begun q n k) cs) (accepted-rows q n k settings cs) d has g
+
+  pub receive-more : (rows : List (List ℕ)) → All (Row q n) rows → length rows ≤ mostRows → (d : ℕ) → HasDimension q n rows d → k < d
+      → told k (receiveOf q n k t (length rows) (join rows)) ≡ record { number = 9; index = 0; dimension = d }
+  receive-more rows h few d has g = ap (told k) (receive-rows q n k t settings known rows h few) ∙ more rows h d has g
+
+pub receive-agrees : (q n k t r : ℕ) (input : List ℕ) → exportedOf q n k t r input answerSize ≡ receiveOf q n k t r input
+receive-agrees = exported-receive

@@ -1,0 +1,139 @@
+-- Against emptiness of demand 3: the drawn rows themselves always give the index back. No part of the meaning.
+--   Among x xs           == x is one of xs
+--   drawn-rows-recovered == a list of calls that offers each drawn row at least once, in any order and by either Take, and beside these only
+--                           rows that are refused, and closes: closing after it gives the index
+--   takeAll rows         == the rows taken by value, one after the other
+--   drawn-rows-taken     == so taking the drawn rows from the top and closing gives the index
+--   drawn-bytes-received == and so does Receive of the drawn bytes
+-- Assumes nothing.
+use mathlib.Core.Path.{_≡_, refl, ap, ap₂, sym, _∙_, subst}
+use mathlib.Core.Bool.{Bool, true, false}
+use mathlib.Core.List.{List, [], _∷_}
+use mathlib.Core.Logic.{_⊎_, inl, inr, Iff·rfl}
+use Prim.Native.Nat.{ℕ, _≤_, _<_}
+use native.Mathlib.Omega.{arith}
+use lib.ListN.{length}
+use Rattle.basics.specs.Choice.{pick}
+use Rattle.field.specs.Laws.{Laws}
+use Rattle.counts.specs.Gaussian.{gaussian}
+use Rattle.settings.specs.Settings.{settingsRefusal}
+use Rattle.settings.specs.laws.Accepted.{accepted as settings-accepted}
+use Rattle.matrix.specs.Matrix.{Reduced}
+use Rattle.linear.specs.Span.{All, none, more, Row, InSpan, SameSpan, rowsOf, HasDimension}
+use Rattle.linear.specs.Every.{all-map, all-both}
+use Rattle.linear.specs.Mixture.{span-each, span-same, mixed-in-span}
+use Rattle.linear.specs.Flat.{rows-length, join-rows}
+use Rattle.linear.specs.ReducedRows.{reduced-rows}
+use Rattle.numbering.specs.Numbering.{isNumbering, indexIn}
+use Rattle.draw.specs.Draw.{drawBuffer}
+use Rattle.receive.specs.Receive.{receiveOf}
+use Rattle.receive.specs.declared.Received.the-variants.{Done}
+use Rattle.receiver.specs.Receiver.{closeOf}
+use Rattle.receiver.specs.laws.Held.{settings-laws}
+use Rattle.recovery.specs.Calls.{Call, begun, takeValue, after, accepted, offered, fitting}
+use Rattle.recovery.specs.Demand.{Buffer}
+use Rattle.recovery.specs.laws.Fitting.{fits, fits-row, row-fits}
+use Rattle.recovery.specs.laws.After.{accepted-fits, accepted-rows}
+use Rattle.recovery.specs.Theorem.{demand-3}
+
+pub data Among {A : Type 0} (x : A) : List A → Type 0 where
+  first : {xs : List A} → Among x (x ∷ xs)
+  later : {y : A} {xs : List A} → Among x xs → Among x (y ∷ xs)
+
+among-all : {A : Type 0} {P : A → Type 0} {x : A} {xs : List A} → All P xs → Among x xs → P x
+among-all (more p ps) first = p
+among-all (more p ps) (later a) = among-all ps a
+
+each-among : {A : Type 0} (xs : List A) → All (λ x. Among x xs) xs
+each-among [] = none
+each-among (x ∷ xs) = more first (all-map (λ y a. later a) (each-among xs))
+
+-- a row that is offered and fits stands among the fitting ones
+among-fitting : {q n : ℕ} {row : List ℕ} → Row q n row → {rows : List (List ℕ)} → Among row rows → Among row (fitting q n rows)
+unfolding fitting
+among-fitting {q} {n} {row} h (first {xs = rows}) =
+    subst (λ b. Among row (pick b (row ∷ fitting q n rows) (fitting q n rows))) (sym (row-fits q n row h)) first
+among-fitting {q} {n} {row} h (later {y = other} {xs = rows} a) = cases (fits q n other) (among-fitting h a)
+  where
+    cases : (b : Bool) → Among row (fitting q n rows) → Among row (pick b (other ∷ fitting q n rows) (fitting q n rows))
+    cases true a = later a
+    cases false a = a
+
+-- what is offered has the property or is no row: then the fitting rows have it
+fitting-all : {q n : ℕ} {P : List ℕ → Type 0} {rows : List (List ℕ)} → All (λ row. P row ⊎ (Row q n row → ⊥)) rows → All P (fitting q n rows)
+unfolding fitting
+fitting-all none = none
+fitting-all {q} {n} {P} (more {x = row} {xs = rows} h hs) = cases (fits q n row) refl h (fitting-all hs)
+  where
+    cases : (b : Bool) → fits q n row ≡ b → P row ⊎ (Row q n row → ⊥) → All P (fitting q n rows)
+        → All P (pick b (row ∷ fitting q n rows) (fitting q n rows))
+    cases true e (inl p) ps = more p ps
+    cases true e (inr outside) ps = absurd (outside (fits-row q n row e))
+    cases false e h ps = ps
+
+abbrev pub takeAll : List (List ℕ) → List Call
+takeAll [] = []
+takeAll (row ∷ rows) = takeValue (record { row = row }) ∷ takeAll rows
+
+offered-all : (rows : List (List ℕ)) → offered (takeAll rows) ≡ rows
+unfolding offered
+offered-all [] = refl
+offered-all (row ∷ rows) = ap (λ (x : List (List ℕ)). row ∷ x) (offered-all rows)
+
+module _ (q n k t : ℕ) (settings : settingsRefusal q n k ≡ 0) (known : isNumbering t ≡ true) (i : ℕ) (h : i < gaussian q n k)
+    (b : List ℕ) (sized : Buffer n k b) where
+  law : Laws q
+  law = settings-laws q n k settings
+
+  -- the drawn rows
+  abbrev drawnRows : List (List ℕ)
+  drawnRows = rowsOf n k (drawBuffer q n k t i b)
+
+  reduced : Reduced q n k (drawBuffer q n k t i b)
+  reduced = demand-3 q n k t settings known .listing .reduced i h b sized
+
+  valid : All (Row q n) drawnRows
+  valid = reduced-rows q n reduced
+
+  pub drawn-rows-recovered : (cs : List Call)
+      → All (λ row. Among row (rowsOf n k (drawBuffer q n k t i b)) ⊎ (Row q n row → ⊥)) (offered cs)
+      → All (λ row. Among row (offered cs)) (rowsOf n k (drawBuffer q n k t i b))
+      → closeOf (after (begun q n k) cs) t ≡ Done (indexIn t i)
+  unfolding HasDimension
+  drawn-rows-recovered cs only every =
+      demand-3 q n k t settings known .recovery i h b sized cs
+      (all-map (λ v s. mixed-in-span q law n drawnRows valid v .1 s) inside) .typed (drawBuffer q n k t i b, reduced, same)
+    where
+      inside : All (InSpan q n drawnRows) (accepted (begun q n k) cs)
+      inside =
+          all-map (λ v a. among-all (span-each q law n drawnRows valid) a)
+          (subst (All (λ row. Among row drawnRows)) (sym (accepted-fits q n k settings cs)) (fitting-all only))
+
+      outside : All (InSpan q n (accepted (begun q n k) cs)) drawnRows
+      outside =
+          all-both
+          (λ v r a.
+          among-all (span-each q law n (accepted (begun q n k) cs) (accepted-rows q n k settings cs))
+          (subst (Among v) (sym (accepted-fits q n k settings cs)) (among-fitting r a))) valid every
+
+      same : SameSpan q n drawnRows (accepted (begun q n k) cs)
+      same = span-same q law n drawnRows (accepted (begun q n k) cs) valid (accepted-rows q n k settings cs) outside inside
+
+  pub drawn-rows-taken : closeOf (after (begun q n k) (takeAll (rowsOf n k (drawBuffer q n k t i b)))) t ≡ Done (indexIn t i)
+  drawn-rows-taken =
+      drawn-rows-recovered (takeAll drawnRows)
+      (subst (All (λ row. Among row drawnRows ⊎ (Row q n row → ⊥))) (sym (offered-all drawnRows)) (all-map (λ v a. inl a) (each-among drawnRows)))
+      (subst (λ rows. All (λ row. Among row rows) drawnRows) (sym (offered-all drawnRows)) (each-among drawnRows))
+
+  pub drawn-bytes-received : receiveOf q n k t k (drawBuffer q n k t i b) ≡ Done (indexIn t i)
+  unfolding HasDimension SameSpan
+  drawn-bytes-received =
+      ap₂ (receiveOf q n k t) (sym (rows-length n k (drawBuffer q n k t i b))) (sym (join-rows n k (drawBuffer q n k t i b) (reduced .size)))
+      ∙ demand-3 q n k t settings known .reception i h b sized drawnRows few
+      (all-map (λ v s. mixed-in-span q law n drawnRows valid v .1 s) (span-each q law n drawnRows valid)) .typed
+      (drawBuffer q n k t i b, reduced, λ v. Iff·rfl)
+    where
+      few : length drawnRows ≤ 64
+      few =
+          let a = settings-accepted q n k settings in
+          omega (arith, rows-length n k (drawBuffer q n k t i b), a .dimension, a .narrow)

@@ -1,0 +1,3 @@
+-- reduce: the call Reduce.
+pub mod Reduce
+pub mod laws

@@ -1,0 +1,75 @@
+-- A Reduce that is not refused; no part of the meaning.
+--   ReduceAccepted   == what holds where none refuses
+--   reduce-accepted, reduce-unrefused == what is not refused is ReduceAccepted; and back
+--   reduce-told      == the number and the dimension that an answer of Reduce tells
+-- Assumes nothing.
+use mathlib.Core.Path.{_≡_, refl, ap, _∙_}
+use mathlib.Core.Bool.{true}
+use mathlib.Core.List.{List, [], _∷_}
+use Prim.Native.Nat.{ℕ, _*_, _≤_}
+use borrow.Author.Tests.{eq-eqb, le-leb, eqb-true, leb-true}
+use lib.Dec.{T, eqb, leb}
+use lib.ListN.{length}
+use Rattle.basics.specs.Choice.{holds}
+use Rattle.refusal.specs.Refusal.{fieldSizeRefusal, shapeRefusal, lengthRefusal, entryRefusal, rowCountRefusal, refuseUnless, unlessRefused}
+use Rattle.refusal.specs.laws.First.{test-zero, test-passed, first-none, told-number, told-value}
+use Rattle.field.specs.Field.{isFieldSize}
+use Rattle.settings.specs.Settings.{rowLengthOk}
+use Rattle.settings.specs.laws.Accepted.{row-length-fits}
+use Rattle.matrix.specs.Matrix.{entriesBelow}
+use Rattle.linear.specs.Span.{rowsOf}
+use Rattle.linear.specs.Eliminate.{dimension}
+use Rattle.reduce.specs.Reduce.{mostRows, reduceRefusal, reduceOf, reductionNumber, reductionDimension}
+use Rattle.reduce.specs.declared.Reduction.{Reduction}
+use Rattle.reduce.specs.declared.Reduction.the-variants.{Done, Refused}
+
+pub record ReduceAccepted (q n r : ℕ) (input : List ℕ) (size : ℕ) : Type 0 where
+  pub field : T (isFieldSize q)
+  pub narrow : n ≤ 16
+  pub few : r ≤ mostRows
+  pub sized : length input ≡ r * n
+  pub room : size ≡ n * n
+  pub below : T (entriesBelow q input)
+
+module _ (q n r : ℕ) (input : List ℕ) (size : ℕ) where
+  pub reduce-accepted : reduceRefusal q n r input size ≡ 0 → ReduceAccepted q n r input size
+  unfolding reduceRefusal
+  reduce-accepted e =
+      let entries = refuseUnless (entriesBelow q input) entryRefusal ∷ [] in
+      let output = refuseUnless (eqb size (n * n)) lengthRefusal ∷ entries in
+      let bytes = refuseUnless (eqb (length input) (r * n)) lengthRefusal ∷ output in
+      let count = refuseUnless (leb r mostRows) rowCountRefusal ∷ bytes in
+      let f = test-zero (isFieldSize q) fieldSizeRefusal (refuseUnless (rowLengthOk n) shapeRefusal ∷ count) tt e in
+      let l = test-zero (rowLengthOk n) shapeRefusal count tt (f .1) in
+      let c = test-zero (leb r mostRows) rowCountRefusal bytes tt (l .1) in
+      let i = test-zero (eqb (length input) (r * n)) lengthRefusal output tt (c .1) in
+      let o = test-zero (eqb size (n * n)) lengthRefusal entries tt (i .1) in
+      record {
+        field = holds (isFieldSize q) (f .0);
+        narrow = row-length-fits n (l .0) .1;
+        few = leb-true r mostRows (c .0);
+        sized = eqb-true (length input) (r * n) (i .0);
+        room = eqb-true size (n * n) (o .0);
+        below = holds (entriesBelow q input) (test-zero (entriesBelow q input) entryRefusal [] tt (o .1) .0);
+      }
+
+  pub reduce-unrefused : isFieldSize q ≡ true → rowLengthOk n ≡ true → r ≤ mostRows → length input ≡ r * n → size ≡ n * n
+      → entriesBelow q input ≡ true → reduceRefusal q n r input size ≡ 0
+  unfolding reduceRefusal
+  reduce-unrefused s l h i o e =
+      test-passed _ _ _ s ∙ test-passed _ _ _ l ∙ test-passed _ _ _ (le-leb r mostRows h)
+      ∙ test-passed _ _ _ (eq-eqb (length input) (r * n) i)
+      ∙ test-passed _ _ _ (eq-eqb size (n * n) o)
+      ∙ test-passed _ _ _ e
+      ∙ first-none
+
+  pub reduce-told : (a : Reduction) → a ≡ reduceOf q n r input size
+      → (reductionNumber a ≡ reduceRefusal q n r input size)
+      × (reductionDimension a ≡ unlessRefused (reduceRefusal q n r input size) (dimension q n (rowsOf n r input)) 0)
+  unfolding reduceOf
+  reduce-told a e =
+      let refusal = reduceRefusal q n r input size in
+      let d = dimension q n (rowsOf n r input) in (
+        ap reductionNumber e ∙ told-number refusal (Done (record { dimension = d })) (Refused refusal) reductionNumber refl refl,
+        ap reductionDimension e ∙ told-value refusal (Done (record { dimension = d })) (Refused refusal) reductionDimension d refl refl,
+      )

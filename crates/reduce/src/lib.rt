@@ -1,0 +1,68 @@
+// Reduce: the reduced matrix of the span of some rows.
+ghost use mathlib.Core.Path.{_≡_};
+ghost use lib.ListN.{length};
+ghost use Rattle.refusal.specs.Refusal.{unlessRefused};
+ghost use Rattle.linear.specs.Span.{rowsOf};
+ghost use Rattle.linear.specs.Eliminate.{dimension as dimensionOf};
+ghost use Rattle.reduce.specs.Reduce.{reduceRefusal, reduceOf, reduceBuffer, reductionNumber, reductionDimension};
+
+// The most rows that a call takes in.
+pub const MOST_ROWS: u64 = 64;
+
+// What is told of the span of some rows.
+pub struct Space {
+    pub dimension: u64,
+}
+
+// What Reduce answers.
+pub enum Reduction {
+    Done(Space),
+    Refused(u32),
+}
+
+// The first refusal of Reduce that applies; 0 where none does.
+fn reduce_refusal(q: u64, n: u64, row_count: u64, rows: &[u8], size: usize) -> u32
+    ensures { λ r. ⌜ r ≡ reduceRefusal q n «row_count» (now (rows .entry)) size ⌝ }
+{
+    if !field::is_size(q) {
+        return refusal::FIELD_SIZE;
+    }
+    if !settings::row_length_ok(n) {
+        return refusal::SHAPE;
+    }
+    if MOST_ROWS < row_count {
+        return refusal::ROW_COUNT;
+    }
+    if rows.len() as u64 != row_count * n {
+        return refusal::LENGTH;
+    }
+    if size as u64 != n * n {
+        return refusal::LENGTH;
+    }
+    if !matrix::entries_below(rows, q) {
+        return refusal::ENTRY;
+    }
+    0
+}
+
+// Reduce: writes the reduced matrix of the rows' span to `output`, then zeros, and answers the dimension.
+// Refuses 1, 2 (for n alone), 13, 4 (the rows are not row_count×n bytes, or the output not n×n), 6.
+pub fn reduce(q: u64, n: u64, row_count: u64, rows: &[u8], output: &mut [u8]) -> Reduction
+    ensures { λ r. ⌜ r ≡ reduceOf q n «row_count» (now (rows .entry)) (length (now (output .entry))) ⌝ }
+    ensures { λ _. ⌜ now (output .exit) ≡ reduceBuffer q n «row_count» (now (rows .entry)) (now (output .entry)) ⌝ }
+    ensures { λ r. ⌜ (reductionNumber r ≡ reduceRefusal q n «row_count» (now (rows .entry)) (length (now (output .entry))))
+        × (reductionDimension r ≡ unlessRefused (reduceRefusal q n «row_count» (now (rows .entry)) (length (now (output .entry))))
+        (dimensionOf q n (rowsOf n «row_count» (now (rows .entry)))) 0) ⌝ }
+{
+    let refusal = reduce_refusal(q, n, row_count, rows, output.len());
+    if refusal != 0 {
+        return Reduction::Refused(refusal);
+    }
+    let width = n as usize;
+    let mut pivots = [0u8; 16];
+    matrix::clear(output);
+    let dimension = reduction::reduce(q, width, row_count as usize, rows, output, &mut pivots);
+    Reduction::Done(Space {
+        dimension: dimension as u64,
+    })
+}
