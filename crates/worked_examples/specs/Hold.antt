@@ -1,13 +1,18 @@
--- Every row of the table of examples holds, by computation.
+-- Every row of the tables of examples holds, by computation.
 --   Holds e         == the call answers what it must
---   examples-hold   == each of the examples does
+--   examples-hold   == each of document 01's marked examples does
+--   readings-hold   == so does each example that tells another reading from document 01
+--   refusals-hold   == and each of the refusals
 -- Assumes nothing.
 use mathlib.Core.Path.{_≡_, refl, ap}
-use mathlib.Core.List.{List, [], _∷_}
+use mathlib.Core.List.{List, [], _∷_, _++_}
 use Prim.Native.Nat.{ℕ}
 use lib.ListN.{getD, drop}
 use Rattle.linear.specs.Span.{All, none, more}
-use Rattle.worked_examples.specs.Table.{Example, answer, examples}
+use Rattle.worked_examples.specs.Answer.{Example, answer}
+use Rattle.worked_examples.specs.Marked.{marked}
+use Rattle.worked_examples.specs.Readings.{readings}
+use Rattle.worked_examples.specs.Refusals.{refusals}
 use Rattle.counts.specs.Gaussian.{gaussian}
 use Rattle.settings.specs.Settings.{rowLengthOk, shapeOk, countOk, settingsRefusal, countOf}
 use Rattle.field.specs.Field.{isFieldSize, add, multiply, negate, inverseFrom, invert}
@@ -24,15 +29,18 @@ use Rattle.refusal.specs.Refusal.{refuseUnless, first, unlessRefused}
 use Rattle.numbering.specs.Numbering.{isNumbering, numberingOf, choiceRefusal}
 use Rattle.draw.specs.Draw.{drawRefusal, drawBuffer}
 use Rattle.number.specs.Number.{entriesRefusal, numberRefusal, numberOf}
-use Rattle.reduce.specs.Reduce.{reduceRefusal, reduceBuffer}
-use Rattle.receive.specs.Answer.{spaceAnswer}
+use Rattle.convert.specs.Convert.{convertRefusal, convertNumber, convertOf}
+use Rattle.reduce.specs.Reduce.{reduceRefusal, reduceOf, reduceBuffer}
+use Rattle.receive.specs.Answer.{spaceRefusal, spaceAnswer}
 use Rattle.receive.specs.Receive.{rowsRefusal, receiveRefusal, receiveOf}
+use Rattle.receiver.specs.Receiver.{startOf, wellFormed, heldRows, holding, takeRefusal, takenIn, takeOf, closeRefusal, closeOf}
+use Rattle.pandrwyg.specs.Exported.{bytesOf, exportedRefusal, exportedNumber, exportedOf, exportedBytes}
 use Rattle.text.specs.Text.{numeralWithin, numeral}
 use Rattle.text.specs.Rows.{rowText, rowsText}
 use Rattle.text.specs.Line.{lineWith}
 use Rattle.settings_line.specs.Decimal.{isDigit, digitRun, reading, isNumeral, decimalAt, fieldAt}
 use Rattle.settings_line.specs.SettingsLine.{parsed}
-use Rattle.listing.specs.Listing.{listRefusal, listingLine, linesFrom, header, listingOutput}
+use Rattle.listing.specs.Listing.{listRefusal, listingLine, linesFrom, header, refusedWord, refusedLine, listingOutput}
 use Rattle.basics.specs.All.{allBelow}
 use Rattle.basics.specs.Sum.{sum, sumRange, value}
 use Rattle.basics.specs.Table.{tabulate}
@@ -54,6 +62,24 @@ each : (es : List Example) → answers es ≡ musts es → All Holds es
 each [] same = none
 each (e ∷ es) same = more (ap (λ l. getD l 0 []) same) (each es (ap (drop 1) same))
 
-pub examples-hold : All Holds examples
-unfolding listingOutput header linesFrom listingLine listRefusal parsed fieldAt decimalAt digitRun isDigit reading isNumeral lineWith numeral numeralWithin rowsText rowText gaussian rowLengthOk shapeOk countOk settingsRefusal countOf isFieldSize add multiply negate inverseFrom invert leadFrom lead pivotAt identifying columnValue entriesBelow columnAlone rowReduced isReduced topValue cell flatten ones extendedTermAt extendedTerm extendedIndex extendedColumn extendedBefore extendedRank extendedShape drawnExtended partitionsRow partitions freeFrom freeColumns dots diagram total size dottedFrom tableauOf tableau tableauValue diagramTerm diagramPlace largerDiagrams ferrersIndex shapeSize boxCount shapePlace shapeTableau ferrersRank diagramShape sizedShape ferrersShape drawnFerrers leadOf eliminate residue monic place insertResidue insertRow insertRows reducedRows join reducedOf dimension combinationAt combination InSpan SameSpan rowsOf HasDimension refuseUnless first unlessRefused isNumbering numberingOf choiceRefusal drawRefusal drawBuffer entriesRefusal numberRefusal numberOf reduceRefusal reduceBuffer spaceAnswer rowsRefusal receiveRefusal receiveOf allBelow sum sumRange value tabulate padded
-examples-hold = each examples refl
+-- all rows at once
+every : All Holds (marked ++ (readings ++ refusals))
+unfolding listingOutput header linesFrom listingLine listRefusal parsed fieldAt decimalAt digitRun isDigit reading isNumeral lineWith numeral numeralWithin rowsText rowText gaussian rowLengthOk shapeOk countOk settingsRefusal countOf isFieldSize add multiply negate inverseFrom invert leadFrom lead pivotAt identifying columnValue entriesBelow columnAlone rowReduced isReduced topValue cell flatten ones extendedTermAt extendedTerm extendedIndex extendedColumn extendedBefore extendedRank extendedShape drawnExtended partitionsRow partitions freeFrom freeColumns dots diagram total size dottedFrom tableauOf tableau tableauValue diagramTerm diagramPlace largerDiagrams ferrersIndex shapeSize boxCount shapePlace shapeTableau ferrersRank diagramShape sizedShape ferrersShape drawnFerrers leadOf eliminate residue monic place insertResidue insertRow insertRows reducedRows join reducedOf dimension combinationAt combination InSpan SameSpan rowsOf HasDimension refuseUnless first unlessRefused isNumbering numberingOf choiceRefusal drawRefusal drawBuffer entriesRefusal numberRefusal numberOf reduceRefusal reduceBuffer spaceAnswer rowsRefusal receiveRefusal receiveOf allBelow sum sumRange value tabulate padded refusedWord refusedLine reduceOf convertRefusal convertNumber convertOf startOf wellFormed heldRows holding takeRefusal takenIn takeOf closeRefusal closeOf bytesOf exportedRefusal exportedNumber exportedOf exportedBytes spaceRefusal
+every = each (marked ++ (readings ++ refusals)) refl
+
+front : {P : Example → Type 0} (xs : List Example) {ys : List Example} → All P (xs ++ ys) → All P xs
+front [] h = none
+front (x ∷ xs) (more p ps) = more p (front xs ps)
+
+behind : {P : Example → Type 0} (xs : List Example) {ys : List Example} → All P (xs ++ ys) → All P ys
+behind [] h = h
+behind (x ∷ xs) (more p ps) = behind xs ps
+
+pub examples-hold : All Holds marked
+examples-hold = front marked every
+
+pub readings-hold : All Holds readings
+readings-hold = front readings (behind marked every)
+
+pub refusals-hold : All Holds refusals
+refusals-hold = behind readings (behind marked every)

@@ -1,3 +1,6 @@
--- bench_examples: the examples that document 01 marks, as one table with one theorem.
-pub mod Table
+-- worked_examples: tables of calls with what each must answer.
+pub mod Answer
+pub mod Marked
+pub mod Readings
+pub mod Refusals
 pub mod Hold

@@ -1,0 +1,91 @@
+-- Calls with what each must answer, for the tables of examples.
+--   Call        == a call with its arguments; matrices and rows are flat, row by row; t is the numbering; lent buffers are given as they are
+--                  before the call
+--   answer      == document 01's numbers for the call, by the definitions that the contracts cite: the refusal number (0 for none), then
+--                  what the call answers (count; index; dimension; 1 for "raised"), then the lent buffer or the receiver afterwards; of the
+--                  list program, all that it writes; of an index, its summands
+--   Example     == a call and what it must answer
+--   lent size   == a buffer painted with 165s
+--   receiver, image == a receiver by its fields, entries of 0 after the given ones; and back
+-- Assumes nothing.
+use mathlib.Core.Bool.{Bool}
+use mathlib.Core.List.{List, [], _∷_, _++_}
+use Prim.Native.Nat.{ℕ, _*_, _-_, _^_}
+use lib.ListN.{length, replicate}
+use Rattle.basics.specs.Sum.{bit}
+use Rattle.settings.specs.Settings.{countOf, countNumber, countValue}
+use Rattle.ferrers.specs.Ferrers.{size, diagram, diagramPlace, largerDiagrams, tableauValue}
+use Rattle.listing.specs.Listing.{listingOutput}
+use Rattle.draw.specs.Draw.{drawRefusal, drawBuffer}
+use Rattle.number.specs.Number.{numberOf, answerNumber, answerIndex}
+use Rattle.convert.specs.Convert.{convertOf}
+use Rattle.reduce.specs.Reduce.{reduceOf, reduceBuffer, reductionNumber, reductionDimension}
+use Rattle.receive.specs.Answer.{receivedNumber, receivedIndex, receivedDimension}
+use Rattle.receive.specs.Receive.{receiveOf}
+use Rattle.receive.specs.declared.Received.{Received}
+use Rattle.receiver.specs.Receiver.{startOf, startNumber, takeOf, takeNumber, takeRaised, lentReceiver, lentAnswer, closeOf}
+use Rattle.receiver.specs.declared.Receiver.{Receiver}
+use Rattle.pandrwyg.specs.Exported.{exportedNumber, exportedBytes}
+
+pub data Call : Type 0 where
+  count : (q n k : ℕ) → Call
+  draw : (q n k t i : ℕ) (buffer : List ℕ) → Call
+  number : (q n k t : ℕ) (m : List ℕ) → Call
+  convert : (q n k from to i : ℕ) → Call
+  reduce : (q n r : ℕ) (rows output : List ℕ) → Call
+  receive : (q n k t r : ℕ) (rows : List ℕ) → Call
+  receiveC : (q n k t r : ℕ) (rows bytes : List ℕ) → Call
+  start : (q n k : ℕ) → Call
+  takeValue : (r : Receiver) (row : List ℕ) → Call
+  takeLent : (r : Receiver) (row : List ℕ) → Call
+  close : (r : Receiver) (t : ℕ) → Call
+  list : (input : List ℕ) → Call
+  summands : (q n k : ℕ) (m : List ℕ) → Call
+
+abbrev pub lent : ℕ → List ℕ
+lent size = replicate size 165
+
+abbrev pub receiver : ℕ → ℕ → ℕ → ℕ → List ℕ → Receiver
+receiver q n k dimension entries =
+    record { entries = entries ++ replicate (256 - length entries) 0; q = q; n = n; k = k; dimension = dimension }
+
+abbrev pub image : Receiver → List ℕ
+image r = r .q ∷ r .n ∷ r .k ∷ r .dimension ∷ r .entries
+
+-- what Receive and Close tell
+abbrev received : ℕ → Received → List ℕ
+received k a = receivedNumber a ∷ receivedIndex a ∷ receivedDimension k a ∷ []
+
+abbrev pub answer : Call → List ℕ
+answer (count q n k) = countNumber (countOf q n k) ∷ countValue (countOf q n k) ∷ []
+answer (draw q n k t i buffer) = drawRefusal q n k t i (length buffer) ∷ drawBuffer q n k t i buffer
+answer (number q n k t m) = answerNumber (numberOf q n k t m) ∷ answerIndex (numberOf q n k t m) ∷ []
+answer (convert q n k from to i) = answerNumber (convertOf q n k from to i) ∷ answerIndex (convertOf q n k from to i) ∷ []
+answer (reduce q n r rows output) =
+    reductionNumber (reduceOf q n r rows (length output)) ∷ reductionDimension (reduceOf q n r rows (length output)) ∷ reduceBuffer q n r rows output
+answer (receive q n k t r rows) = received k (receiveOf q n k t r rows)
+answer (receiveC q n k t r rows bytes) = exportedNumber q n k t r rows (length bytes) ∷ exportedBytes q n k t r rows bytes
+answer (start q n k) = startNumber (startOf q n k) ∷ image ((startOf q n k) .receiver)
+answer (takeValue r row) =
+    takeNumber ((takeOf r row) .answer) ∷ bit (takeRaised ((takeOf r row) .answer)) ∷ image ((takeOf r row) .receiver)
+answer (takeLent r row) = takeNumber (lentAnswer r row) ∷ bit (takeRaised (lentAnswer r row)) ∷ image (lentReceiver r row)
+answer (close r t) = received (r .k) (closeOf r t)
+answer (list input) = listingOutput input
+answer (summands q n k m) =
+    largerDiagrams q k (n - k) (size n k m)
+    ∷ q ^ size n k m * diagramPlace k (n - k) (diagram n k m) (size n k m)
+    ∷ tableauValue q n k m
+    ∷ []
+
+pub record Example : Type 0 where
+  pub call : Call
+  pub must : List ℕ
+
+-- the call, and what it must answer
+infixl 5 _⇒_
+abbrev pub _⇒_ : Call → List ℕ → Example
+c ⇒ a = record { call = c; must = a }
+
+-- 011001/000100/000011, document 001's Example 4
+abbrev pub paper : List ℕ
+paper = 0 ∷ 1 ∷ 1 ∷ 0 ∷ 0 ∷ 1 ∷ 0 ∷ 0 ∷ 0 ∷ 1 ∷ 0 ∷ 0 ∷ 0 ∷ 0 ∷ 0 ∷ 0 ∷ 1 ∷ 1 ∷ []

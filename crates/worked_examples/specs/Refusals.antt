@@ -1,0 +1,284 @@
+-- Refusals, call by call: each alone, each two neighbours in document 01's order together, and what is left in each case.
+--   refusals  == the table
+-- Assumes nothing.
+use mathlib.Core.List.{List, [], _∷_}
+use Prim.Native.Nat.{ℕ}
+use lib.ListN.{replicate}
+use Rattle.receiver.specs.declared.Receiver.{Receiver}
+use Rattle.worked_examples.specs.Answer.{Example, _⇒_, lent, receiver, image, paper}
+use Rattle.worked_examples.specs.Answer.{count, draw, number, convert, reduce, receive, receiveC, start, takeValue, takeLent, close, list}
+
+-- receivers of 2,3,2 that hold no row, the row 110, the rows 101/011, and all three unit rows; one of 2,3,1 that holds 010
+abbrev noRows : Receiver
+noRows = receiver 2 3 2 0 []
+
+abbrev oneRow : Receiver
+oneRow = receiver 2 3 2 1 (1 ∷ 1 ∷ 0 ∷ [])
+
+abbrev twoRows : Receiver
+twoRows = receiver 2 3 2 2 (1 ∷ 0 ∷ 1 ∷ 0 ∷ 1 ∷ 1 ∷ [])
+
+abbrev threeRows : Receiver
+threeRows = receiver 2 3 2 3 (1 ∷ 0 ∷ 0 ∷ 0 ∷ 1 ∷ 0 ∷ 0 ∷ 0 ∷ 1 ∷ [])
+
+abbrev middle : Receiver
+middle = receiver 2 3 1 1 (0 ∷ 1 ∷ 0 ∷ [])
+
+-- receivers that Start and Take cannot leave: of all zeros; a dimension above n; no field size; an entry of q; a zero row; entries that
+-- are not 0 where there is no row, and behind a row
+abbrev zeros : Receiver
+zeros = receiver 0 0 0 0 []
+
+abbrev tooManyRows : Receiver
+tooManyRows = receiver 2 3 2 4 []
+
+abbrev noField : Receiver
+noField = receiver 4 3 2 0 []
+
+abbrev oversized : Receiver
+oversized = receiver 2 3 2 1 (2 ∷ 0 ∷ 0 ∷ [])
+
+abbrev zeroRow : Receiver
+zeroRow = receiver 2 3 2 1 (0 ∷ 0 ∷ 0 ∷ [])
+
+abbrev leftOver : Receiver
+leftOver = receiver 2 3 2 0 (1 ∷ [])
+
+abbrev behindTheRow : Receiver
+behindTheRow = receiver 2 3 2 1 (1 ∷ 1 ∷ 0 ∷ 1 ∷ [])
+
+-- `refused,1` and a line feed
+abbrev refused1 : List ℕ
+refused1 = 114 ∷ 101 ∷ 102 ∷ 117 ∷ 115 ∷ 101 ∷ 100 ∷ 44 ∷ 49 ∷ 10 ∷ []
+
+-- `refused,2` and a line feed
+abbrev refused2 : List ℕ
+refused2 = 114 ∷ 101 ∷ 102 ∷ 117 ∷ 115 ∷ 101 ∷ 100 ∷ 44 ∷ 50 ∷ 10 ∷ []
+
+-- `refused,3` and a line feed
+abbrev refused3 : List ℕ
+refused3 = 114 ∷ 101 ∷ 102 ∷ 117 ∷ 115 ∷ 101 ∷ 100 ∷ 44 ∷ 51 ∷ 10 ∷ []
+
+-- `refused,11` and a line feed
+abbrev refused11 : List ℕ
+refused11 = 114 ∷ 101 ∷ 102 ∷ 117 ∷ 115 ∷ 101 ∷ 100 ∷ 44 ∷ 49 ∷ 49 ∷ 10 ∷ []
+
+-- `refused,12` and a line feed
+abbrev refused12 : List ℕ
+refused12 = 114 ∷ 101 ∷ 102 ∷ 117 ∷ 115 ∷ 101 ∷ 100 ∷ 44 ∷ 49 ∷ 50 ∷ 10 ∷ []
+
+abbrev pub refusals : List Example
+refusals =
+    -- Count: 1; 2, for n outside 1 to 16 and for k above n; 3; then the first of two
+    (count 4 3 1 ⇒ (1 ∷ 0 ∷ []))
+    ∷ (count 6 3 1 ⇒ (1 ∷ 0 ∷ []))
+    ∷ (count 11 3 1 ⇒ (1 ∷ 0 ∷ []))
+    ∷ (count 0 3 1 ⇒ (1 ∷ 0 ∷ []))
+    ∷ (count 2 0 0 ⇒ (2 ∷ 0 ∷ []))
+    ∷ (count 2 17 0 ⇒ (2 ∷ 0 ∷ []))
+    ∷ (count 2 3 4 ⇒ (2 ∷ 0 ∷ []))
+    ∷ (count 7 10 5 ⇒ (3 ∷ 0 ∷ []))
+    ∷ (count 4 17 1 ⇒ (1 ∷ 0 ∷ []))
+    ∷ (count 2 17 8 ⇒ (2 ∷ 0 ∷ []))
+    -- and where none applies: each size, and the longest row
+    ∷ (count 2 16 1 ⇒ (0 ∷ 65535 ∷ []))
+    ∷ (count 3 2 1 ⇒ (0 ∷ 4 ∷ []))
+    ∷ (count 5 2 1 ⇒ (0 ∷ 6 ∷ []))
+    ∷ (count 7 2 1 ⇒ (0 ∷ 8 ∷ []))
+    ∷ (count 7 16 16 ⇒ (0 ∷ 1 ∷ []))
+    -- Draw: each refusal alone leaves the buffer
+    ∷ (draw 4 3 1 1 0 (lent 3) ⇒ (1 ∷ (lent 3)))
+    ∷ (draw 2 17 1 1 0 (lent 3) ⇒ (2 ∷ (lent 3)))
+    ∷ (draw 7 10 5 1 0 (lent 3) ⇒ (3 ∷ (lent 3)))
+    ∷ (draw 2 3 1 0 0 (lent 3) ⇒ (10 ∷ (lent 3)))
+    ∷ (draw 2 3 1 3 0 (lent 3) ⇒ (10 ∷ (lent 3)))
+    ∷ (draw 2 3 1 1 0 (lent 2) ⇒ (4 ∷ (lent 2)))
+    ∷ (draw 2 3 1 2 0 (lent 4) ⇒ (4 ∷ (lent 4)))
+    ∷ (draw 2 3 1 1 7 (lent 3) ⇒ (5 ∷ (lent 3)))
+    ∷ (draw 2 3 1 2 7 (lent 3) ⇒ (5 ∷ (lent 3)))
+    -- and of two neighbours the first is told
+    ∷ (draw 4 17 1 1 0 (lent 3) ⇒ (1 ∷ (lent 3)))
+    ∷ (draw 2 17 8 1 0 (lent 3) ⇒ (2 ∷ (lent 3)))
+    ∷ (draw 7 10 5 3 0 (lent 3) ⇒ (3 ∷ (lent 3)))
+    ∷ (draw 2 3 1 3 0 (lent 1) ⇒ (10 ∷ (lent 1)))
+    ∷ (draw 2 3 1 1 7 (lent 1) ⇒ (4 ∷ (lent 1)))
+    -- and where none applies the matrix is left
+    ∷ (draw 2 3 1 1 2 (lent 3) ⇒ (0 ∷ (0 ∷ 1 ∷ 0 ∷ [])))
+    ∷ (draw 2 3 1 2 2 (lent 3) ⇒ (0 ∷ (1 ∷ 0 ∷ 1 ∷ [])))
+    -- Number
+    ∷ (number 4 3 1 1 (0 ∷ 1 ∷ 0 ∷ []) ⇒ (1 ∷ 0 ∷ []))
+    ∷ (number 2 17 1 1 (0 ∷ 1 ∷ 0 ∷ []) ⇒ (2 ∷ 0 ∷ []))
+    ∷ (number 7 10 5 1 (0 ∷ 1 ∷ 0 ∷ []) ⇒ (3 ∷ 0 ∷ []))
+    ∷ (number 2 3 1 0 (0 ∷ 1 ∷ 0 ∷ []) ⇒ (10 ∷ 0 ∷ []))
+    ∷ (number 2 3 1 3 (0 ∷ 1 ∷ 0 ∷ []) ⇒ (10 ∷ 0 ∷ []))
+    ∷ (number 2 3 1 1 (0 ∷ 1 ∷ []) ⇒ (4 ∷ 0 ∷ []))
+    ∷ (number 2 3 1 1 (0 ∷ 2 ∷ 0 ∷ []) ⇒ (6 ∷ 0 ∷ []))
+    ∷ (number 2 3 1 1 (0 ∷ 0 ∷ 0 ∷ []) ⇒ (7 ∷ 0 ∷ []))
+    ∷ (number 4 17 1 1 (0 ∷ 1 ∷ 0 ∷ []) ⇒ (1 ∷ 0 ∷ []))
+    ∷ (number 2 17 8 1 (0 ∷ 1 ∷ 0 ∷ []) ⇒ (2 ∷ 0 ∷ []))
+    ∷ (number 7 10 5 3 (0 ∷ 1 ∷ 0 ∷ []) ⇒ (3 ∷ 0 ∷ []))
+    ∷ (number 2 3 1 3 (0 ∷ []) ⇒ (10 ∷ 0 ∷ []))
+    ∷ (number 2 3 1 1 (2 ∷ 2 ∷ []) ⇒ (4 ∷ 0 ∷ []))
+    ∷ (number 2 3 1 2 (0 ∷ 2 ∷ 0 ∷ []) ⇒ (6 ∷ 0 ∷ []))
+    -- each clause of a reduced matrix alone: a zero row, a pivot of 2, pivots that do not rise, a pivot with company
+    ∷ (number 3 3 2 1 (1 ∷ 0 ∷ 0 ∷ 0 ∷ 0 ∷ 0 ∷ []) ⇒ (7 ∷ 0 ∷ []))
+    ∷ (number 3 3 1 1 (2 ∷ 0 ∷ 0 ∷ []) ⇒ (7 ∷ 0 ∷ []))
+    ∷ (number 3 3 2 1 (0 ∷ 1 ∷ 0 ∷ 1 ∷ 0 ∷ 0 ∷ []) ⇒ (7 ∷ 0 ∷ []))
+    ∷ (number 3 3 2 1 (1 ∷ 1 ∷ 0 ∷ 0 ∷ 1 ∷ 0 ∷ []) ⇒ (7 ∷ 0 ∷ []))
+    ∷ (number 2 3 1 1 (0 ∷ 1 ∷ 0 ∷ []) ⇒ (0 ∷ 2 ∷ []))
+    ∷ (number 2 3 1 2 (0 ∷ 1 ∷ 0 ∷ []) ⇒ (0 ∷ 4 ∷ []))
+    -- Convert: 10 for the first numbering, then the second; 5
+    ∷ (convert 4 3 1 1 2 0 ⇒ (1 ∷ 0 ∷ []))
+    ∷ (convert 2 17 1 1 2 0 ⇒ (2 ∷ 0 ∷ []))
+    ∷ (convert 7 10 5 1 2 0 ⇒ (3 ∷ 0 ∷ []))
+    ∷ (convert 2 3 1 0 2 0 ⇒ (10 ∷ 0 ∷ []))
+    ∷ (convert 2 3 1 1 0 0 ⇒ (10 ∷ 0 ∷ []))
+    ∷ (convert 2 3 1 1 2 7 ⇒ (5 ∷ 0 ∷ []))
+    -- of two neighbours the first
+    ∷ (convert 4 17 1 1 2 0 ⇒ (1 ∷ 0 ∷ []))
+    ∷ (convert 2 17 8 1 2 0 ⇒ (2 ∷ 0 ∷ []))
+    ∷ (convert 7 10 5 3 2 0 ⇒ (3 ∷ 0 ∷ []))
+    ∷ (convert 2 3 1 3 1 7 ⇒ (10 ∷ 0 ∷ []))
+    ∷ (convert 2 3 1 1 3 7 ⇒ (10 ∷ 0 ∷ []))
+    -- and where none applies the other index of the space
+    ∷ (convert 2 3 1 1 2 2 ⇒ (0 ∷ 4 ∷ []))
+    ∷ (convert 2 3 1 2 1 4 ⇒ (0 ∷ 2 ∷ []))
+    ∷ (convert 2 3 1 1 1 2 ⇒ (0 ∷ 2 ∷ []))
+    ∷ (convert 2 3 1 2 2 4 ⇒ (0 ∷ 4 ∷ []))
+    -- Reduce: the refusal number, the dimension, the output
+    ∷ (reduce 4 2 1 (1 ∷ 0 ∷ []) (lent 4) ⇒ (1 ∷ 0 ∷ (lent 4)))
+    ∷ (reduce 2 0 0 [] [] ⇒ (2 ∷ 0 ∷ []))
+    ∷ (reduce 2 17 0 [] [] ⇒ (2 ∷ 0 ∷ []))
+    ∷ (reduce 2 1 65 (replicate 65 1) (lent 1) ⇒ (13 ∷ 0 ∷ (lent 1)))
+    ∷ (reduce 2 2 1 (1 ∷ []) (lent 4) ⇒ (4 ∷ 0 ∷ (lent 4)))
+    ∷ (reduce 2 2 1 (1 ∷ 0 ∷ []) (lent 3) ⇒ (4 ∷ 0 ∷ (lent 3)))
+    ∷ (reduce 2 2 1 (1 ∷ 2 ∷ []) (lent 4) ⇒ (6 ∷ 0 ∷ (lent 4)))
+    -- of two neighbours the first
+    ∷ (reduce 4 17 0 [] [] ⇒ (1 ∷ 0 ∷ []))
+    ∷ (reduce 2 17 65 [] [] ⇒ (2 ∷ 0 ∷ []))
+    ∷ (reduce 2 2 65 [] (lent 4) ⇒ (13 ∷ 0 ∷ (lent 4)))
+    ∷ (reduce 2 2 1 (2 ∷ []) (lent 4) ⇒ (4 ∷ 0 ∷ (lent 4)))
+    ∷ (reduce 2 2 1 (1 ∷ 2 ∷ []) (lent 1) ⇒ (4 ∷ 0 ∷ (lent 1)))
+    -- and where none applies the reduced rows, then zeros, and the dimension, which is not the count of rows; 64 rows pass
+    ∷ (reduce 2 2 2 (1 ∷ 1 ∷ 1 ∷ 1 ∷ []) (lent 4) ⇒ (0 ∷ 1 ∷ (1 ∷ 1 ∷ 0 ∷ 0 ∷ [])))
+    ∷ (reduce 2 2 0 [] (lent 4) ⇒ (0 ∷ 0 ∷ (0 ∷ 0 ∷ 0 ∷ 0 ∷ [])))
+    ∷ (reduce 2 1 64 (replicate 64 1) (lent 1) ⇒ (0 ∷ 1 ∷ (1 ∷ [])))
+    -- Receive: the refusal number, the index, the dimension
+    ∷ (receive 4 3 1 1 1 (0 ∷ 1 ∷ 0 ∷ []) ⇒ (1 ∷ 0 ∷ 0 ∷ []))
+    ∷ (receive 2 17 1 1 1 (0 ∷ 1 ∷ 0 ∷ []) ⇒ (2 ∷ 0 ∷ 0 ∷ []))
+    ∷ (receive 7 10 5 1 1 (0 ∷ 1 ∷ 0 ∷ []) ⇒ (3 ∷ 0 ∷ 0 ∷ []))
+    ∷ (receive 2 3 1 0 1 (0 ∷ 1 ∷ 0 ∷ []) ⇒ (10 ∷ 0 ∷ 0 ∷ []))
+    ∷ (receive 2 3 1 3 1 (0 ∷ 1 ∷ 0 ∷ []) ⇒ (10 ∷ 0 ∷ 0 ∷ []))
+    ∷ (receive 2 1 1 1 65 (replicate 65 1) ⇒ (13 ∷ 0 ∷ 0 ∷ []))
+    ∷ (receive 2 3 1 1 1 (0 ∷ 1 ∷ []) ⇒ (4 ∷ 0 ∷ 0 ∷ []))
+    ∷ (receive 2 3 1 1 1 (0 ∷ 2 ∷ 0 ∷ []) ⇒ (6 ∷ 0 ∷ 0 ∷ []))
+    ∷ (receive 2 3 1 1 1 (0 ∷ 0 ∷ 0 ∷ []) ⇒ (8 ∷ 0 ∷ 0 ∷ []))
+    ∷ (receive 2 3 1 1 2 (1 ∷ 0 ∷ 0 ∷ 0 ∷ 1 ∷ 0 ∷ []) ⇒ (9 ∷ 0 ∷ 2 ∷ []))
+    -- of two neighbours the first
+    ∷ (receive 4 17 1 1 1 (0 ∷ 1 ∷ 0 ∷ []) ⇒ (1 ∷ 0 ∷ 0 ∷ []))
+    ∷ (receive 2 17 8 1 1 (0 ∷ 1 ∷ 0 ∷ []) ⇒ (2 ∷ 0 ∷ 0 ∷ []))
+    ∷ (receive 7 10 5 3 1 (0 ∷ 1 ∷ 0 ∷ []) ⇒ (3 ∷ 0 ∷ 0 ∷ []))
+    ∷ (receive 2 3 1 3 65 [] ⇒ (10 ∷ 0 ∷ 0 ∷ []))
+    ∷ (receive 4 3 1 1 65 [] ⇒ (1 ∷ 0 ∷ 0 ∷ []))
+    ∷ (receive 2 3 1 1 65 [] ⇒ (13 ∷ 0 ∷ 0 ∷ []))
+    ∷ (receive 2 3 1 1 1 (2 ∷ []) ⇒ (4 ∷ 0 ∷ 0 ∷ []))
+    ∷ (receive 2 3 2 1 1 (0 ∷ 2 ∷ 0 ∷ []) ⇒ (6 ∷ 0 ∷ 0 ∷ []))
+    -- and where none applies
+    ∷ (receive 2 3 1 1 2 (0 ∷ 1 ∷ 0 ∷ 0 ∷ 1 ∷ 0 ∷ []) ⇒ (0 ∷ 2 ∷ 1 ∷ []))
+    ∷ (receive 2 3 1 2 1 (0 ∷ 1 ∷ 0 ∷ []) ⇒ (0 ∷ 4 ∷ 1 ∷ []))
+    -- Receive for C: what it returns, and the nine bytes
+    ∷ (receiveC 4 3 1 1 1 (0 ∷ 1 ∷ 0 ∷ []) (lent 9) ⇒ (1 ∷ (lent 9)))
+    ∷ (receiveC 2 17 1 1 1 (0 ∷ 1 ∷ 0 ∷ []) (lent 9) ⇒ (2 ∷ (lent 9)))
+    ∷ (receiveC 7 10 5 1 1 (0 ∷ 1 ∷ 0 ∷ []) (lent 9) ⇒ (3 ∷ (lent 9)))
+    ∷ (receiveC 2 3 1 3 1 (0 ∷ 1 ∷ 0 ∷ []) (lent 9) ⇒ (10 ∷ (lent 9)))
+    ∷ (receiveC 2 1 1 1 65 (replicate 65 1) (lent 9) ⇒ (13 ∷ (lent 9)))
+    ∷ (receiveC 2 3 1 1 1 (0 ∷ 1 ∷ []) (lent 9) ⇒ (4 ∷ (lent 9)))
+    ∷ (receiveC 2 3 1 1 1 (0 ∷ 1 ∷ 0 ∷ []) (lent 1) ⇒ (4 ∷ (lent 1)))
+    ∷ (receiveC 2 3 1 1 1 (0 ∷ 1 ∷ 0 ∷ []) (lent 10) ⇒ (4 ∷ (lent 10)))
+    ∷ (receiveC 2 3 1 1 1 (0 ∷ 2 ∷ 0 ∷ []) (lent 9) ⇒ (6 ∷ (lent 9)))
+    ∷ (receiveC 2 3 2 1 1 (0 ∷ 1 ∷ 0 ∷ []) (lent 9) ⇒ (8 ∷ (0 ∷ 0 ∷ 0 ∷ 0 ∷ 0 ∷ 0 ∷ 0 ∷ 0 ∷ 1 ∷ [])))
+    ∷ (receiveC 2 3 1 1 2 (1 ∷ 0 ∷ 0 ∷ 0 ∷ 1 ∷ 0 ∷ []) (lent 9) ⇒ (9 ∷ (0 ∷ 0 ∷ 0 ∷ 0 ∷ 0 ∷ 0 ∷ 0 ∷ 0 ∷ 2 ∷ [])))
+    -- of two neighbours the first
+    ∷ (receiveC 2 3 1 3 65 [] (lent 9) ⇒ (10 ∷ (lent 9)))
+    ∷ (receiveC 2 3 1 1 65 [] (lent 9) ⇒ (13 ∷ (lent 9)))
+    ∷ (receiveC 2 3 1 1 65 [] (lent 1) ⇒ (13 ∷ (lent 1)))
+    ∷ (receiveC 2 3 1 1 1 (0 ∷ 2 ∷ 0 ∷ []) (lent 1) ⇒ (4 ∷ (lent 1)))
+    ∷ (receiveC 2 3 2 1 1 (0 ∷ 2 ∷ 0 ∷ []) (lent 9) ⇒ (6 ∷ (lent 9)))
+    -- and where none applies: the index 928, least byte first, then the dimension
+    ∷ (receiveC 2 6 3 1 3 paper (lent 9) ⇒ (0 ∷ (160 ∷ 3 ∷ 0 ∷ 0 ∷ 0 ∷ 0 ∷ 0 ∷ 0 ∷ 3 ∷ [])))
+    -- Start: the refusal number, and the receiver, which is of all zeros where it refuses
+    ∷ (start 4 3 1 ⇒ (1 ∷ (image zeros)))
+    ∷ (start 2 17 1 ⇒ (2 ∷ (image zeros)))
+    ∷ (start 7 10 5 ⇒ (3 ∷ (image zeros)))
+    ∷ (start 4 17 1 ⇒ (1 ∷ (image zeros)))
+    ∷ (start 2 17 8 ⇒ (2 ∷ (image zeros)))
+    ∷ (start 2 3 1 ⇒ (0 ∷ (2 ∷ 3 ∷ 1 ∷ 0 ∷ replicate 256 0)))
+    -- Take, by value and lent: the refusal number, 1 for "raised", and the receiver
+    ∷ (takeValue tooManyRows (0 ∷ 1 ∷ 1 ∷ []) ⇒ (14 ∷ 0 ∷ (image tooManyRows)))
+    ∷ (takeValue noField (0 ∷ 1 ∷ 1 ∷ []) ⇒ (14 ∷ 0 ∷ (image noField)))
+    ∷ (takeValue oversized (0 ∷ 1 ∷ 1 ∷ []) ⇒ (14 ∷ 0 ∷ (image oversized)))
+    ∷ (takeValue zeroRow (0 ∷ 1 ∷ 1 ∷ []) ⇒ (14 ∷ 0 ∷ (image zeroRow)))
+    ∷ (takeValue leftOver (0 ∷ 1 ∷ 1 ∷ []) ⇒ (14 ∷ 0 ∷ (image leftOver)))
+    ∷ (takeValue oneRow (0 ∷ 1 ∷ []) ⇒ (4 ∷ 0 ∷ (image oneRow)))
+    ∷ (takeValue oneRow (0 ∷ 2 ∷ 1 ∷ []) ⇒ (6 ∷ 0 ∷ (image oneRow)))
+    ∷ (takeValue zeros (2 ∷ []) ⇒ (14 ∷ 0 ∷ (image zeros)))
+    ∷ (takeValue oneRow (2 ∷ []) ⇒ (4 ∷ 0 ∷ (image oneRow)))
+    ∷ (takeValue oneRow (0 ∷ 1 ∷ 1 ∷ []) ⇒ (0 ∷ 1 ∷ (image twoRows)))
+    ∷ (takeValue oneRow (1 ∷ 1 ∷ 0 ∷ []) ⇒ (0 ∷ 0 ∷ (image oneRow)))
+    ∷ (takeValue oneRow (0 ∷ 0 ∷ 0 ∷ []) ⇒ (0 ∷ 0 ∷ (image oneRow)))
+    ∷ (takeValue noRows (0 ∷ 0 ∷ 0 ∷ []) ⇒ (0 ∷ 0 ∷ (image noRows)))
+    ∷ (takeLent tooManyRows (0 ∷ 1 ∷ 1 ∷ []) ⇒ (14 ∷ 0 ∷ (image tooManyRows)))
+    ∷ (takeLent noField (0 ∷ 1 ∷ 1 ∷ []) ⇒ (14 ∷ 0 ∷ (image noField)))
+    ∷ (takeLent oversized (0 ∷ 1 ∷ 1 ∷ []) ⇒ (14 ∷ 0 ∷ (image oversized)))
+    ∷ (takeLent zeroRow (0 ∷ 1 ∷ 1 ∷ []) ⇒ (14 ∷ 0 ∷ (image zeroRow)))
+    ∷ (takeLent leftOver (0 ∷ 1 ∷ 1 ∷ []) ⇒ (14 ∷ 0 ∷ (image leftOver)))
+    ∷ (takeLent oneRow (0 ∷ 1 ∷ []) ⇒ (4 ∷ 0 ∷ (image oneRow)))
+    ∷ (takeLent oneRow (0 ∷ 2 ∷ 1 ∷ []) ⇒ (6 ∷ 0 ∷ (image oneRow)))
+    ∷ (takeLent zeros (2 ∷ []) ⇒ (14 ∷ 0 ∷ (image zeros)))
+    ∷ (takeLent oneRow (2 ∷ []) ⇒ (4 ∷ 0 ∷ (image oneRow)))
+    ∷ (takeLent oneRow (0 ∷ 1 ∷ 1 ∷ []) ⇒ (0 ∷ 1 ∷ (image twoRows)))
+    ∷ (takeLent oneRow (1 ∷ 1 ∷ 0 ∷ []) ⇒ (0 ∷ 0 ∷ (image oneRow)))
+    ∷ (takeLent oneRow (0 ∷ 0 ∷ 0 ∷ []) ⇒ (0 ∷ 0 ∷ (image oneRow)))
+    ∷ (takeLent noRows (0 ∷ 0 ∷ 0 ∷ []) ⇒ (0 ∷ 0 ∷ (image noRows)))
+    -- Close: the refusal number, the index, the dimension
+    ∷ (close tooManyRows 1 ⇒ (14 ∷ 0 ∷ 0 ∷ []))
+    ∷ (close zeroRow 1 ⇒ (14 ∷ 0 ∷ 0 ∷ []))
+    ∷ (close behindTheRow 1 ⇒ (14 ∷ 0 ∷ 0 ∷ []))
+    ∷ (close tooManyRows 3 ⇒ (14 ∷ 0 ∷ 0 ∷ []))
+    ∷ (close oneRow 3 ⇒ (10 ∷ 0 ∷ 0 ∷ []))
+    ∷ (close oneRow 0 ⇒ (10 ∷ 0 ∷ 0 ∷ []))
+    ∷ (close oneRow 1 ⇒ (8 ∷ 0 ∷ 1 ∷ []))
+    ∷ (close noRows 2 ⇒ (8 ∷ 0 ∷ 0 ∷ []))
+    ∷ (close threeRows 1 ⇒ (9 ∷ 0 ∷ 3 ∷ []))
+    ∷ (close threeRows 3 ⇒ (10 ∷ 0 ∷ 0 ∷ []))
+    ∷ (close twoRows 1 ⇒ (0 ∷ 3 ∷ 2 ∷ []))
+    ∷ (close twoRows 2 ⇒ (0 ∷ 3 ∷ 2 ∷ []))
+    ∷ (close middle 1 ⇒ (0 ∷ 2 ∷ 1 ∷ []))
+    ∷ (close middle 2 ⇒ (0 ∷ 4 ∷ 1 ∷ []))
+    -- List: 11 for what is no settings line: nothing, no line feed, a fourth number, a leading zero, four digits, a blank, bytes after it
+    ∷ (list [] ⇒ refused11)
+    ∷ (list (50 ∷ 44 ∷ 51 ∷ 44 ∷ 49 ∷ []) ⇒ refused11)
+    ∷ (list (50 ∷ 44 ∷ 51 ∷ 44 ∷ 49 ∷ 44 ∷ 48 ∷ 10 ∷ []) ⇒ refused11)
+    ∷ (list (50 ∷ 44 ∷ 48 ∷ 51 ∷ 44 ∷ 49 ∷ 10 ∷ []) ⇒ refused11)
+    ∷ (list (50 ∷ 44 ∷ 51 ∷ 44 ∷ 48 ∷ 48 ∷ 48 ∷ 49 ∷ 10 ∷ []) ⇒ refused11)
+    ∷ (list (50 ∷ 44 ∷ 32 ∷ 51 ∷ 44 ∷ 49 ∷ 10 ∷ []) ⇒ refused11)
+    ∷ (list (50 ∷ 44 ∷ 51 ∷ 44 ∷ 49 ∷ 10 ∷ 10 ∷ []) ⇒ refused11)
+    ∷ (list (50 ∷ 44 ∷ 51 ∷ 10 ∷ []) ⇒ refused11)
+    ∷ (list (44 ∷ 51 ∷ 44 ∷ 49 ∷ 10 ∷ []) ⇒ refused11)
+    ∷ (list (120 ∷ 44 ∷ 51 ∷ 44 ∷ 49 ∷ 10 ∷ []) ⇒ refused11)
+    -- 1, 2, 3, 12, and of two the first
+    ∷ (list (52 ∷ 44 ∷ 51 ∷ 44 ∷ 49 ∷ 10 ∷ []) ⇒ refused1)
+    ∷ (list (50 ∷ 44 ∷ 49 ∷ 55 ∷ 44 ∷ 49 ∷ 10 ∷ []) ⇒ refused2)
+    ∷ (list (50 ∷ 44 ∷ 48 ∷ 44 ∷ 48 ∷ 10 ∷ []) ⇒ refused2)
+    ∷ (list (50 ∷ 44 ∷ 51 ∷ 44 ∷ 52 ∷ 10 ∷ []) ⇒ refused2)
+    ∷ (list (55 ∷ 44 ∷ 49 ∷ 48 ∷ 44 ∷ 53 ∷ 10 ∷ []) ⇒ refused3)
+    ∷ (list (50 ∷ 44 ∷ 49 ∷ 48 ∷ 44 ∷ 51 ∷ 10 ∷ []) ⇒ refused12)
+    ∷ (list (52 ∷ 44 ∷ 51 ∷ 44 ∷ 49 ∷ []) ⇒ refused11)
+    ∷ (list (52 ∷ 44 ∷ 49 ∷ 55 ∷ 44 ∷ 49 ∷ 10 ∷ []) ⇒ refused1)
+    ∷ (list (50 ∷ 44 ∷ 49 ∷ 55 ∷ 44 ∷ 56 ∷ 10 ∷ []) ⇒ refused2)
+    ∷ (list (48 ∷ 48 ∷ 48 ∷ 44 ∷ 51 ∷ 44 ∷ 49 ∷ 10 ∷ []) ⇒ refused11)
+    ∷ (list (57 ∷ 57 ∷ 57 ∷ 44 ∷ 51 ∷ 44 ∷ 49 ∷ 10 ∷ []) ⇒ refused1)
+    -- and where none applies the header and the lines: `/` stands between rows
+    ∷ (list (50 ∷ 44 ∷ 50 ∷ 44 ∷ 50 ∷ 10 ∷ []) ⇒ (101 ∷ 120 ∷ 116 ∷ 101 ∷ 110 ∷ 100 ∷ 101 ∷ 100 ∷ 44 ∷ 102 ∷ 101 ∷ 114 ∷ 114 ∷ 101 ∷ 114 ∷ 115 ∷ 44 ∷ 114 ∷ 111 ∷ 119 ∷ 115 ∷ 10 ∷ 48 ∷ 44 ∷ 48 ∷ 44 ∷ 49 ∷ 48 ∷ 47 ∷ 48 ∷ 49 ∷ 10 ∷ []))
+    ∷ (list (48 ∷ 44 ∷ 51 ∷ 44 ∷ 49 ∷ 10 ∷ []) ⇒ refused1)
+    ∷ []
