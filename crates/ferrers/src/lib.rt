@@ -10,35 +10,13 @@ ghost use Rattle.matrix.specs.Matrix.{identifying, Reduced};
 ghost use Rattle.matrix.specs.Shape.{Shape, cell, flatten};
 ghost use Rattle.ferrers.specs.Ferrers.{size, diagram, diagramPlace, tableauValue, largerDiagrams, ferrersIndex};
 ghost use Rattle.ferrers.specs.Ranked.{boxCount, freeCount, drawnFerrers};
-ghost use Rattle.ferrers.specs.Packed.{shorter as shorterSide, nearer as nearerEnd, packed as packedCount, boxBegin};
+ghost use Rattle.ferrers.specs.Packed.{packed as packedCount, boxBegin};
 ghost use Rattle.ferrers.specs.Searching.{Found};
 ghost use Rattle.ferrers.specs.DiagramVector.{diagramVector};
 ghost use Rattle.ferrers.specs.Unranking.{Shaped};
 
 // An index of the Ferrers numbering; it never stands for an extended index.
 pub struct FerrersIndex(pub u64);
-
-// The shorter side of the box of k rows and n - k columns.
-fn shorter(n: usize, k: usize) -> usize
-    requires { ⌜ (n ≤ 16) × (k ≤ n) ⌝ }
-    ensures { λ r. ⌜ r ≡ shorterSide n k ⌝ }
-{
-    if k + k <= n {
-        return k;
-    }
-    n - k
-}
-
-// m or limit - m, whichever is nearer to an end of 0 to limit.
-fn nearer(limit: usize, m: usize) -> usize
-    requires { ⌜ (limit ≤ 256) × (m ≤ limit) ⌝ }
-    ensures { λ r. ⌜ r ≡ nearerEnd limit m ⌝ }
-{
-    if m + m <= limit {
-        return m;
-    }
-    limit - m
-}
 
 // The i-th of the packed partition counts.
 fn packed(i: u64) -> u64
@@ -52,7 +30,7 @@ fn box_begin(n: usize, k: usize) -> u64
     requires { ⌜ (n ≤ 16) × (k ≤ n) ⌝ }
     ensures { λ r. ⌜ r ≡ boxBegin n k ⌝ }
 {
-    lookup::begin((n * 9 + shorter(n, k)) as u64)
+    lookup::begin(counts::half_place(n as u64, k as u64))
 }
 
 // p(k, n-k, m), the number of Ferrers diagrams of m dots in a box of k rows and n - k columns, which has room for `limit` dots; its counts
@@ -61,7 +39,7 @@ fn box_entry(n: usize, k: usize, begin: u64, limit: usize, m: usize) -> u64
     requires { ⌜ (n ≤ 16) × (k ≤ n) × (begin ≡ boxBegin n k) × (limit ≡ k * (n - k)) × (m ≤ limit) ⌝ }
     ensures { λ r. ⌜ r ≡ boxCount n k m ⌝ }
 {
-    packed(begin + nearer(limit, m) as u64)
+    packed(begin + counts::nearer(limit as u64, m as u64))
 }
 
 // The same for any k and m; 0 where there is no such box or no room.

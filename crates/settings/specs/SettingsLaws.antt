@@ -18,7 +18,7 @@ use Rattle.basics.specs.Test.{and-left, and-right}
 use Rattle.refusal.specs.Refusal.{fieldSize, shape, count, refuseUnless, first}
 use Rattle.field.specs.Field.{isFieldSize}
 use Rattle.counts.specs.Gaussian.{gaussian, greatestCount, tableEntry}
-use Rattle.counts.specs.Laws.{gaussian-positive, entry-within}
+use Rattle.counts.specs.laws.GaussianLaws.{gaussian-positive, entry-within}
 use Rattle.settings.specs.Settings.{rowLengthOk, shapeOk, countOk, settingsRefusal, Accepted}
 
 pub row-length-fits : (n : ℕ) → rowLengthOk n ≡ true → (1 ≤ n) × (n ≤ 16)

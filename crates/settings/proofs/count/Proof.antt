@@ -24,14 +24,14 @@ returns c =
     ap Refused (c .before .settings-refusal .ensures)
     ∙ sym (rw (ne-eqb (settingsRefusal _ _ _) 0 (λ e. c .if1 .taken (c .before .settings-refusal .ensures ∙ e))))
 
-table-entry-requires : tie.Need-table-entry-requires
-table-entry-requires c κs = let a = settings c in (a .size, a .narrow, omega arith)
+coefficient-requires : tie.Need-coefficient-requires
+coefficient-requires c κs = let a = settings c in (a .size, a .narrow, omega arith)
 
 returns-2 : tie.Need-returns-2
 unfolding countOf
 returns-2 c =
-    ap Count (c .table-entry .ensures ∙ entry-of-accepted _ _ _ (settings (c .before)))
+    ap Count (c .coefficient .ensures ∙ entry-of-accepted _ _ _ (settings (c .before)))
     ∙ sym (rw (eq-eqb (settingsRefusal _ _ _) 0 (unrefused (c .before))))
 
 pub count-spec : {M : Type 1} → statement M
-count-spec = tie.close (tie.spec settings-refusal-requires returns table-entry-requires returns-2)
+count-spec = tie.close (tie.spec settings-refusal-requires returns coefficient-requires returns-2)
