@@ -1,5 +1,5 @@
-// Writes the files that are nothing but tables: the constant table of the counts, the functions that look something up, and the proofs of these
-// functions, which have a line for each arm. The argument is the folder to write to, the repository's or one like it.
+// Writes the files that are nothing but tables: the constant table of the counts, the functions that look something up, and the proofs of
+// these functions, which have a line for each arm. The argument is the folder to write to, the repository's or one like it.
 // A new field is one more size in SIZES.
 #include <inttypes.h>
 #include <stdio.h>
@@ -68,7 +68,7 @@ static void end(FILE *file)
     }
 }
 
-// The proof of a look-up that has an arm for each key; `unfolding` is what the list is computed by, and `uses` where that is defined.
+// The proof of a look-up, with a line for each arm; `unfolding` is what the list is computed by, and `uses` where that is defined.
 struct proof {
     FILE *file;
     const char *list;
@@ -80,7 +80,8 @@ static struct proof begin_proof(const char *crate, const char *function, const c
     char path[256];
     snprintf(path, sizeof path, "crates/%s/proofs/lookup/%s/Proof.antt", crate, function);
     struct proof p = {begin(path), list, 0};
-    fprintf(p.file, "-- `%s::lookup::%s` meets its contract: each arm by computing the list's entry at its key. Made by tools/tables.\n", crate, function);
+    fprintf(p.file, "-- `%s::lookup::%s` meets its contract: each arm by computing the list's entry at its key.\n", crate, function);
+    fprintf(p.file, "-- Made by tools/tables.\n");
     fprintf(p.file, "use Rattle.basics.specs.LookUp.{arm, past}\n%s", uses);
     fprintf(p.file, "use Rattle.%s.proofs.lookup.%s.Statement.{statement}\n", crate, function);
     fprintf(p.file, "use Rattle.%s.proofs.lookup.%s.Tie as tie\n\n", crate, function);
@@ -102,9 +103,10 @@ static void end_proof(struct proof *p)
 }
 
 // A look-up: its contract, and the arms between `begin_function` and `end_function`.
-static void begin_function(FILE *file, const char *about, const char *name, const char *list)
+static void begin_function(FILE *file, const char *name, const char *list, const char *about)
 {
-    fprintf(file, "\n// %s\npub fn %s(at: u64) -> u64\n    ensures { λ r. ⌜ r ≡ getD %s at 0 ⌝ }\n{\n    match at {\n", about, name, list);
+    fprintf(file, "\n// %s\npub fn %s(at: u64) -> u64\n", about, name);
+    fprintf(file, "    ensures { λ r. ⌜ r ≡ getD %s at 0 ⌝ }\n{\n    match at {\n", list);
 }
 
 static void end_function(FILE *file)
@@ -115,9 +117,9 @@ static void end_function(FILE *file)
 static void write_counts(void)
 {
     FILE *file = begin("crates/counts/src/table.rt");
-    fprintf(file, "// Document 01's \"one table\": the counts for the field sizes, rising, and n and k from 0 to 16, at place (p * 17 + n) * 17 + k where p\n"
-                  "// is the place of the size. A count above 2^64 - 1 is entered as 0. Made by tools/tables.\n"
-                  "pub const COUNTS: [u64; %d] = [\n", FIELDS * LENGTHS * LENGTHS);
+    fputs("// Document 01's \"one table\": the counts for the field sizes, rising, and n and k from 0 to 16, at\n"
+          "// place (p * 17 + n) * 17 + k where p is the place of the size. A count above 2^64 - 1 is entered as 0. Made by tools/tables.\n", file);
+    fprintf(file, "pub const COUNTS: [u64; %d] = [\n", FIELDS * LENGTHS * LENGTHS);
     for (int p = 0; p < FIELDS; p++)
         for (int n = 0; n < LENGTHS; n++)
             for (int k = 0; k < LENGTHS; k++)
@@ -158,24 +160,33 @@ static void write_word(FILE *file, struct proof *proof, int key, uint64_t word)
 static void write_counts_look_up(void)
 {
     FILE *file = begin("crates/counts/src/lookup.rt");
-    fprintf(file, "// What the counts and the powers are looked up by. The compiler makes a read-only table of each `match`, which needs no stack; a constant\n"
-                  "// array that is read at a place known only at run time it would copy to the stack. Made by tools/tables.\n"
-                  "ghost use mathlib.Core.Path.{_≡_};\nghost use lib.ListN.{getD};\n"
-                  "ghost use Rattle.counts.specs.laws.Halves.{halves};\nghost use Rattle.counts.specs.laws.Powers.{powers};\n"
-                  "use crate::table::COUNTS;\n\n// N_q_n_k is the table's entry for q, n and k.");
+    fputs("// What the counts and the powers are looked up by. The compiler makes a read-only table of each `match`, which needs no\n"
+          "// stack; a constant array that is read at a place known only at run time it would copy to the stack. Made by tools/tables.\n"
+          "ghost use mathlib.Core.Path.{_≡_};\n"
+          "ghost use lib.ListN.{getD};\n"
+          "ghost use Rattle.counts.specs.laws.Halves.{halves};\n"
+          "ghost use Rattle.counts.specs.laws.Powers.{powers};\n"
+          "use crate::table::COUNTS;\n"
+          "\n// N_q_n_k is the table's entry for q, n and k.", file);
     each_half(name_half, file, NULL);
     struct proof proof = begin_proof("counts", "count", "halves",
-        "use Rattle.basics.specs.Ragged.{ragged}\nuse Rattle.basics.specs.Table.{tabulate}\n"
-        "use Rattle.counts.specs.Gaussian.{gaussian, entry}\nuse Rattle.counts.specs.laws.Halves.{halves}\n",
+        "use Rattle.basics.specs.Ragged.{ragged}\n"
+        "use Rattle.basics.specs.Table.{tabulate}\n"
+        "use Rattle.counts.specs.Gaussian.{gaussian, entry}\n"
+        "use Rattle.counts.specs.laws.Halves.{halves}\n",
         "halves ragged tabulate entry gaussian");
-    begin_function(file, "The table's counts up to k = n / 2, those of a size after those of the size before; elsewhere 0.", "count", "halves");
+    begin_function(file, "count", "halves",
+        "The table's counts up to k = n / 2, those of a size after those of the size before; elsewhere 0.");
     each_half(read_half, file, &proof);
     end_function(file);
     end_proof(&proof);
     proof = begin_proof("counts", "power", "powers",
-        "use Rattle.basics.specs.Ragged.{ragged}\nuse Rattle.basics.specs.Table.{tabulate}\nuse Rattle.counts.specs.laws.Powers.{powers}\n",
+        "use Rattle.basics.specs.Ragged.{ragged}\n"
+        "use Rattle.basics.specs.Table.{tabulate}\n"
+        "use Rattle.counts.specs.laws.Powers.{powers}\n",
         "powers ragged tabulate");
-    begin_function(file, "The powers within 64 bits, those of a size after those of the size before; past them 0.", "power", "powers");
+    begin_function(file, "power", "powers",
+        "The powers within 64 bits, those of a size after those of the size before; past them 0.");
     int key = 0;
     for (int p = 1; p < FIELDS; p++) {
         uint64_t power = 1;
@@ -193,13 +204,18 @@ static void write_counts_look_up(void)
 static void write_diagrams_look_up(void)
 {
     FILE *file = begin("crates/ferrers/src/lookup.rt");
-    fprintf(file, "// The tables of the Ferrers numbering, as functions: the compiler makes a read-only table of each `match`, which needs no stack. Made by\n"
-                  "// tools/tables.\n"
-                  "ghost use mathlib.Core.Path.{_≡_};\nghost use lib.ListN.{getD};\nghost use Rattle.ferrers.specs.Packed.{words, begins};\n");
-    struct proof proof = begin_proof("ferrers", "word", "words", 
-        "use Rattle.basics.specs.Ragged.{ragged}\nuse Rattle.ferrers.specs.BoxTable.{level, nextRows, addRows, shifted}\n"
-        "use Rattle.ferrers.specs.Packed.{keptCounts, packFour, words}\n", "words packFour keptCounts ragged level nextRows addRows shifted");
-    begin_function(file, "Four partition counts of sixteen bits each, the first lowest.", "word", "words");
+    fputs("// The tables of the Ferrers numbering, as functions: the compiler makes a read-only table of each `match`, which needs no\n"
+          "// stack. Made by tools/tables.\n"
+          "ghost use mathlib.Core.Path.{_≡_};\n"
+          "ghost use lib.ListN.{getD};\n"
+          "ghost use Rattle.ferrers.specs.Packed.{words, begins};\n", file);
+    struct proof proof = begin_proof("ferrers", "word", "words",
+        "use Rattle.basics.specs.Ragged.{ragged}\n"
+        "use Rattle.ferrers.specs.BoxTable.{level, nextRows, addRows, shifted}\n"
+        "use Rattle.ferrers.specs.Packed.{keptCounts, packFour, words}\n",
+        "words packFour keptCounts ragged level nextRows addRows shifted");
+    begin_function(file, "word", "words",
+        "Four partition counts of sixteen bits each, the first lowest.");
     uint64_t word = 0;
     int kept = 0, first[HALVES], pairs = 0;
     for (int n = 0; n < LENGTHS; n++)
@@ -217,10 +233,14 @@ static void write_diagrams_look_up(void)
         write_word(file, &proof, kept / 4, word);
     end_function(file);
     end_proof(&proof);
-    proof = begin_proof("ferrers", "begin", "begins", 
-        "use Rattle.basics.specs.Ragged.{ragged}\nuse Rattle.basics.specs.Sum.{sum}\nuse Rattle.basics.specs.Table.{tabulate}\n"
-        "use Rattle.ferrers.specs.Packed.{begins}\n", "begins ragged tabulate sum");
-    begin_function(file, "Where the counts of a box begin; the boxes in the order of their row length and shorter side.", "begin", "begins");
+    proof = begin_proof("ferrers", "begin", "begins",
+        "use Rattle.basics.specs.Ragged.{ragged}\n"
+        "use Rattle.basics.specs.Sum.{sum}\n"
+        "use Rattle.basics.specs.Table.{tabulate}\n"
+        "use Rattle.ferrers.specs.Packed.{begins}\n",
+        "begins ragged tabulate sum");
+    begin_function(file, "begin", "begins",
+        "Where the counts of a box begin; the boxes in the order of their row length and shorter side.");
     for (int i = 1; i < pairs; i++)
         write_word(file, &proof, i, first[i]);
     end_function(file);

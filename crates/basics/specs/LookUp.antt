@@ -1,23 +1,17 @@
--- A list read by a `match` over its places, as the code reads one: an arm for each place, its key, where a number above 0 stands, and 0 in the
--- last arm.
+-- A list read by a `match`, as the code reads one: an arm for each place, its key, where a number above 0 stands, and 0 in the last arm.
 --   arm            == in an arm stands the list's entry at its key
---   arm-at         == so it does where the arm reads it at a place of another table
 --   Absent xs x    == x is no arm's key: what is known in the last arm
 --   past           == then 0 stands at x, or nothing
 -- Assumes nothing.
 use mathlib.Core.Path.{_≡_, refl, ap, _∙_, sym}
 use mathlib.Core.List.{List, [], _∷_}
 use Prim.Native.Nat.{ℕ, zero, suc, _+_}
-use native.Mathlib.Nat.{add-zero, suc-add, add-suc}
+use native.Mathlib.Nat.{add-zero}
 use native.Mathlib.Omega.{arith}
 use lib.ListN.{getD}
 
 pub arm : (xs : List ℕ) (key : ℕ) {x : ℕ} → x ≡ key → getD xs key 0 ≡ getD xs x 0
 arm xs key e = ap (λ i. getD xs i 0) (sym e)
-
-pub arm-at : (xs : List ℕ) (place key : ℕ) {table list : List ℕ} {x : ℕ} → table ≡ list → getD list place 0 ≡ getD xs key 0 → x ≡ key
-    → getD table place 0 ≡ getD xs x 0
-arm-at xs place key same here e = ap (λ l. getD l place 0) same ∙ here ∙ arm xs key e
 
 -- beside A: the list begins at the key i
 abbrev pub AbsentFrom : Type 0 → ℕ → List ℕ → ℕ → Type 0

@@ -2,12 +2,12 @@
 --   gaussian q n k     == formula (4) of document 001, with 1 at k = 0 and 0 at k > n
 --   greatestCount      == 2^64 - 1
 --   tableEntry q n k   == document 01's table: the count, "a count above 2^64 - 1 is entered as 0"
---   counts             == the table, whole: "the four field sizes, all n and k from 0 to 16", 1,156 numbers, k counted fastest and q slowest
+--   counts             == the table, whole: "1,156 numbers" for "the four field sizes, all n and k from 0 to 16", by q, then n, then k
 -- Assumes nothing.
 use mathlib.Core.List.{List}
 use Prim.Native.Nat.{ℕ, zero, suc, _+_, _*_, _-_, _^_, _/_, _%_}
 use lib.Dec.{leb}
-use lib.ListN.{getD}
+use lib.ListN.{length, getD}
 use Rattle.basics.specs.Choice.{pick}
 use Rattle.basics.specs.Table.{tabulate}
 use Rattle.field.specs.Field.{fieldSizes}
@@ -32,4 +32,4 @@ unfoldable pub entry : ℕ → ℕ
 entry i = tableEntry (getD fieldSizes (i / 289) 0) (i / 17 % 17) (i % 17)
 
 unfoldable pub counts : List ℕ
-counts = tabulate entry 0 1156
+counts = tabulate entry 0 (length fieldSizes * 289)

@@ -1,5 +1,5 @@
-// What the counts and the powers are looked up by. The compiler makes a read-only table of each `match`, which needs no stack; a constant
-// array that is read at a place known only at run time it would copy to the stack. Made by tools/tables.
+// What the counts and the powers are looked up by. The compiler makes a read-only table of each `match`, which needs no
+// stack; a constant array that is read at a place known only at run time it would copy to the stack. Made by tools/tables.
 ghost use mathlib.Core.Path.{_≡_};
 ghost use lib.ListN.{getD};
 ghost use Rattle.counts.specs.laws.Halves.{halves};

@@ -189,8 +189,8 @@ fn find_size(q: u64, n: usize, k: usize, index: u64) -> SizedIndex
     SizedIndex { size: 0, rest }
 }
 
-// The identifying vector of the diagram of `size` dots at the given place, column by column from the right. Of the diagrams of `dots` dots that
-// are left, `earlier` come before this one, and the first `free` of them begin with a free column.
+// The identifying vector of the diagram of `size` dots at the given place, column by column from the right. Of the diagrams of `dots` dots
+// that are left, `earlier` come before this one, and the first `free` of them begin with a free column.
 fn vector_at(n: usize, k: usize, size: usize, place: u64) -> u16
     requires { ⌜ (n ≤ 16) × (place < boxCount n k size) ⌝ }
     ensures { λ r. ⌜ r ≡ diagramVector n k size place ⌝ }
@@ -215,8 +215,8 @@ fn vector_at(n: usize, k: usize, size: usize, place: u64) -> u16
     v
 }
 
-// Writes the reduced matrix with the identifying vector v and the given tableau, column by column from the left: the tableau's last digits are
-// those of the first columns.
+// Writes the reduced matrix with the identifying vector v and the given tableau, column by column from the left: the tableau's last digits
+// are those of the first columns.
 fn draw(m: &mut [u8], q: u64, n: usize, k: usize, v: u16, tableau: u64)
     requires { ⌜ Accepted q n k × ((s : Shape) × Shaped q n k v tableau s) × (length (now m) ≡ k * n) ⌝ }
     ensures { λ _. ⌜ ((s : Shape) → Shaped q n k v tableau s → now (m .exit) ≡ flatten k n (cell q s k n)) ⌝ }

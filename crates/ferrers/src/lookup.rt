@@ -1,5 +1,5 @@
-// The tables of the Ferrers numbering, as functions: the compiler makes a read-only table of each `match`, which needs no stack. Made by
-// tools/tables.
+// The tables of the Ferrers numbering, as functions: the compiler makes a read-only table of each `match`, which needs no
+// stack. Made by tools/tables.
 ghost use mathlib.Core.Path.{_≡_};
 ghost use lib.ListN.{getD};
 ghost use Rattle.ferrers.specs.Packed.{words, begins};

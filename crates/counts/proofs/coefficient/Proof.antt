@@ -26,8 +26,9 @@ add-count : tie.Need-add-count
 add-count c =
     let s = c .before .before .before in
     let a = s .args in
-    omega
-    (arith, c .before .place .ensures, part-below (a .q) (s .pre .0), c .half-place .ensures, half-below (a .n) (a .k) (s .pre .1) (c .before .before .if1 .left))
+    let part = part-below (a .q) (s .pre .0) in
+    let half = half-below (a .n) (a .k) (s .pre .1) (c .before .before .if1 .left) in
+    omega (arith, c .before .place .ensures, part, c .half-place .ensures, half)
 
 count-requires : tie.Need-count-requires
 count-requires c κs = search needs

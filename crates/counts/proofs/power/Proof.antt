@@ -50,11 +50,16 @@ returns c =
 
 returns-2 : tie.Need-returns-2
 unfolding sum
-returns-2 c = found 0 3 _ _ _ refl (c .before .match .keys2) (omega arith) (lit< tt) (lit< tt) (c .before .before .pre .2) (c .power .ensures ∙ ap (λ i. getD powers i 0) (sym (zero-add _)))
+returns-2 c =
+    let small = c .before .before .pre .2 in
+    found 0 3 _ _ _ refl (c .before .match .keys2) (omega arith) (lit< tt) (lit< tt) small
+    (c .power .ensures ∙ ap (λ i. getD powers i 0) (sym (zero-add _)))
 
 returns-3 : tie.Need-returns-3
 unfolding sum
-returns-3 c = found 1 5 _ _ _ refl (c .before .match .keys3) (omega arith) (lit< tt) (lit< tt) (c .before .before .pre .2) (c .power2 .ensures)
+returns-3 c =
+    let small = c .before .before .pre .2 in
+    found 1 5 _ _ _ refl (c .before .match .keys3) (omega arith) (lit< tt) (lit< tt) small (c .power2 .ensures)
 
 returns-4 : tie.Need-returns-4
 unfolding sum

@@ -10,7 +10,7 @@ use Prim.Native.Nat.{ℕ, suc, _+_, _*_, _-_, _<_, _≤_, _%_, _/_}
 use native.Mathlib.Nat.{mul-le-mul}
 use native.Mathlib.Omega.{arith}
 use lib.Dec.{T}
-use lib.ListN.{getD}
+use lib.ListN.{length, getD}
 use Rattle.basics.specs.Member.{position, position-below, position-at}
 use Rattle.basics.specs.Ragged.{ragged, ragged-at}
 use Rattle.basics.specs.Sum.{sum}
@@ -39,18 +39,18 @@ abbrev halfRow : ℕ → List ℕ
 halfRow t = tabulate (λ k. entry (t * 17 + k)) 0 (halfSize t)
 
 unfoldable pub halves : List ℕ
-halves = ragged halfRow 0 68
+halves = ragged halfRow 0 (length fieldSizes * 17)
 
-pub part-below : (q : ℕ) → T (isFieldSize q) → position q fieldSizes < 4
+pub part-below : (q : ℕ) → T (isFieldSize q) → position q fieldSizes < length fieldSizes
 unfolding isFieldSize
 part-below q t = position-below q fieldSizes t
 
 -- where each row's half begins, by one computed test
-begins : (t : ℕ) → t < 68 → sum t halfSize ≡ t / 17 * 81 + (t % 17 + 1) * (t % 17 + 1) / 4
+begins : (t : ℕ) → t < length fieldSizes * 17 → sum t halfSize ≡ t / 17 * 81 + (t % 17 + 1) * (t % 17 + 1) / 4
 unfolding sum
 begins =
     every (λ t. sum t halfSize ≡ t / 17 * 81 + (t % 17 + 1) * (t % 17 + 1) / 4)
-    (λ t. equal (sum t halfSize) (t / 17 * 81 + (t % 17 + 1) * (t % 17 + 1) / 4)) 68
+    (λ t. equal (sum t halfSize) (t / 17 * 81 + (t % 17 + 1) * (t % 17 + 1) / 4)) (length fieldSizes * 17)
     .shows tt
 
 module _ (q n k : ℕ) (size : T (isFieldSize q)) (narrow : n ≤ 16) (inside : k ≤ n) where
@@ -59,11 +59,11 @@ module _ (q n k : ℕ) (size : T (isFieldSize q)) (narrow : n ≤ 16) (inside : 
   unfolding entry isFieldSize
   entry-of j few =
       let p = position q fieldSizes in
-      let b : position q fieldSizes < 4 = part-below q size in
       let part : ((p * 17 + n) * 17 + j) / 289 ≡ p = omega arith in
       let row : ((p * 17 + n) * 17 + j) / 17 % 17 ≡ n = omega arith in
       let column : ((p * 17 + n) * 17 + j) % 17 ≡ j = omega arith in
-      ap (λ s. tableEntry s (((p * 17 + n) * 17 + j) / 17 % 17) (((p * 17 + n) * 17 + j) % 17)) (ap (λ x. getD fieldSizes x 0) part ∙ position-at q fieldSizes size)
+      ap (λ s. tableEntry s (((p * 17 + n) * 17 + j) / 17 % 17) (((p * 17 + n) * 17 + j) % 17))
+      (ap (λ x. getD fieldSizes x 0) part ∙ position-at q fieldSizes size)
       ∙ ap₂ (tableEntry q) row column
 
   same : tableEntry q n (nearer n k) ≡ tableEntry q n k
@@ -73,18 +73,17 @@ module _ (q n k : ℕ) (size : T (isFieldSize q)) (narrow : n ≤ 16) (inside : 
   unfolding halves
   half-at =
       let p = position q fieldSizes in
-      let b : position q fieldSizes < 4 = part-below q size in
-      let j = nearer n k in
+      let b : position q fieldSizes < length fieldSizes = part-below q size in
       let half : nearer n k + nearer n k ≤ n = nearer-twice n k inside in
-      let t = p * 17 + n in
-      let low : p * 17 + n < 68 = omega arith in
+      let low : p * 17 + n < length fieldSizes * 17 = omega arith in
       let part : (p * 17 + n) / 17 ≡ p = omega arith in
       let row : (p * 17 + n) % 17 ≡ n = omega arith in
       let within : nearer n k < halfSize (p * 17 + n) = rw row (omega arith) in
       let begin : sum (p * 17 + n) halfSize ≡ p * 81 + (n + 1) * (n + 1) / 4 = begins (p * 17 + n) low ∙ rw (part, row) in
       let place : p * 81 + halfPlace n k ≡ sum (p * 17 + n) halfSize + nearer n k = rw begin (omega arith) in
-      ap (λ i. getD (ragged halfRow 0 68) i 0) place
-      ∙ ragged-at halfRow halfSize 68 (p * 17 + n) (nearer n k) (λ s h. tabulate-length (λ i. entry (s * 17 + i)) 0 (halfSize s)) low within
+      ap (λ i. getD (ragged halfRow 0 (length fieldSizes * 17)) i 0) place
+      ∙ ragged-at halfRow halfSize (length fieldSizes * 17) (p * 17 + n) (nearer n k)
+      (λ s h. tabulate-length (λ i. entry (s * 17 + i)) 0 (halfSize s)) low within
       ∙ table-at (λ i. entry ((p * 17 + n) * 17 + i)) (halfSize (p * 17 + n)) (nearer n k) within
       ∙ entry-of (nearer n k) (omega arith)
       ∙ same

@@ -21,8 +21,8 @@ add-packed : tie.Need-add-packed
 add-packed c =
     let s = c .before in
     let a = s .args in
-    omega
-    (arith, s .pre .2, begin-below (a .n) (a .k) (s .pre .0) (s .pre .1), nearer-twice (a .limit) (a .m) (s .pre .4), room s, c .nearer .ensures)
+    let near = nearer-twice (a .limit) (a .m) (s .pre .4) in
+    omega (arith, s .pre .2, begin-below (a .n) (a .k) (s .pre .0) (s .pre .1), near, room s, c .nearer .ensures)
 
 packed-requires : tie.Need-packed-requires
 packed-requires c κs = search needs
