@@ -118,7 +118,8 @@ static void write_counts(void)
 {
     FILE *file = begin("crates/counts/src/table.rt");
     fputs("// Document 01's \"one table\": the counts for the field sizes, rising, and n and k from 0 to 16, at\n"
-          "// place (p * 17 + n) * 17 + k where p is the place of the size. A count above 2^64 - 1 is entered as 0. Made by tools/tables.\n", file);
+          "// place (p * 17 + n) * 17 + k where p is the place of the size. A count above 2^64 - 1 is entered as 0.\n"
+          "// Made by tools/tables.\n", file);
     fprintf(file, "pub const COUNTS: [u64; %d] = [\n", FIELDS * LENGTHS * LENGTHS);
     for (int p = 0; p < FIELDS; p++)
         for (int n = 0; n < LENGTHS; n++)

@@ -1,5 +1,6 @@
 // Document 01's "one table": the counts for the field sizes, rising, and n and k from 0 to 16, at
-// place (p * 17 + n) * 17 + k where p is the place of the size. A count above 2^64 - 1 is entered as 0. Made by tools/tables.
+// place (p * 17 + n) * 17 + k where p is the place of the size. A count above 2^64 - 1 is entered as 0.
+// Made by tools/tables.
 pub const COUNTS: [u64; 1156] = [
     1,
     0,
