@@ -11,7 +11,7 @@ ghost use Rattle.counts.specs.laws.Nearer.{nearer as nearerEnd};
 ghost use Rattle.counts.specs.laws.Halves.{halfPlace};
 use table::COUNTS;
 
-// Document 01's table, whole. What calls read is `coefficient`: each entry is at its own place there, and no table is copied.
+// Document 01's table, whole; its rule is proved by one computed test. The calls read its entries by `coefficient`, which copies no table.
 pub fn all_counts() -> [u64; 1156]
     ensures { λ r. ⌜ r ≡ counts ⌝ }
 {
