@@ -1,12 +1,14 @@
 -- Tests that compute, each with the statement that it shows: a statement over finitely many numbers is proved by running its test.
 --   Test A          == a Bool, and a proof of A where it is true
 --   equal, below    == the tests of m ≡ n and of m < n
+--   equalLists      == the test that two lists are the same
 --   always, _⊛_     == a statement that needs no test, and one more premise tested: the test of what follows from several
 --   unless-zero     == the test of a statement about nonzero numbers
 --   every, -Pair, -Triple == the tests of a statement about all numbers below q, all pairs, all triples
 -- Assumes nothing.
-use mathlib.Core.Path.{_≡_, subst, sym}
+use mathlib.Core.Path.{_≡_, refl, ap₂, subst, sym}
 use mathlib.Core.Bool.{Bool, true, false, _&&_}
+use mathlib.Core.List.{List, [], _∷_}
 use mathlib.Core.Logic.{⊎-elim}
 use Prim.Native.Nat.{ℕ, zero, suc, _<_}
 use native.Mathlib.Nat.{eq-or-lt-of-le, le-of-suc-le-suc, not-suc-le-zero}
@@ -40,6 +42,12 @@ f ⊛ a =
       holds = f .holds && a .holds;
       shows = λ t. f .shows (and-left (f .holds) (a .holds) t) (a .shows (and-right (f .holds) (a .holds) t));
     }
+
+abbrev pub equalLists : (xs ys : List ℕ) → Test (xs ≡ ys)
+equalLists [] [] = always refl
+equalLists [] (y ∷ ys) = record { holds = false; shows = λ t. absurd t }
+equalLists (x ∷ xs) [] = record { holds = false; shows = λ t. absurd t }
+equalLists (x ∷ xs) (y ∷ ys) = always (ap₂ (λ (a : ℕ) (l : List ℕ). a ∷ l)) ⊛ equal x y ⊛ equalLists xs ys
 
 abbrev pub unless-zero : (a : ℕ) (A : Type 0) → Test A → Test (0 < a → A)
 unless-zero zero A t = record { holds = true; shows = λ _ h. absurd (not-suc-le-zero h) }

@@ -1,5 +1,3 @@
--- counts: the number of spaces and its table.
+-- counts: the number of spaces and its table. What is believed stands here, what follows or only the code needs below `laws`.
 pub mod Gaussian
-pub mod FieldCounts
-pub mod Powers
-pub mod Laws
+pub mod laws

@@ -1,37 +1,53 @@
 // The number of spaces: the Gaussian coefficient and its table; powers of q.
 mod lookup;
-mod powers;
 mod table;
 
 ghost use mathlib.Core.Path.{_≡_};
 ghost use Prim.Native.Nat.{suc, _*_, _^_, _≤_, _<_};
 ghost use lib.Dec.{T};
 ghost use Rattle.field.specs.Field.{isFieldSize};
-ghost use Rattle.counts.specs.Gaussian.{gaussian, greatestCount, tableEntry};
+ghost use Rattle.counts.specs.Gaussian.{gaussian, greatestCount, tableEntry, counts};
+ghost use Rattle.counts.specs.laws.Nearer.{nearer as nearerEnd};
+ghost use Rattle.counts.specs.laws.Halves.{halfPlace};
 use table::COUNTS;
 
-// The table's entry for q, n and k: the Gaussian coefficient, 0 where it is above 2^64 - 1.
-pub fn table_entry(q: u64, n: u64, k: u64) -> u64
-    requires { ⌜ T (isFieldSize q) × (n ≤ 16) × (k ≤ 16) ⌝ }
-    ensures { λ r. ⌜ r ≡ tableEntry q n k ⌝ }
+// Document 01's table, whole; its rule is proved by one computed test. The calls read its entries by `coefficient`, which copies no table.
+pub fn all_counts() -> [u64; 1156]
+    ensures { λ r. ⌜ r ≡ counts ⌝ }
 {
-    let part = field::place(q);
-    let at = (part * 17 + n as usize) * 17 + k as usize;
-    COUNTS[at]
+    COUNTS
 }
 
-// The same number without the table's copy on the stack.
+// The smaller of m and limit - m.
+pub fn nearer(limit: u64, m: u64) -> u64
+    requires { ⌜ m ≤ limit ⌝ }
+    ensures { λ r. ⌜ r ≡ nearerEnd limit m ⌝ }
+{
+    let rest = limit - m;
+    if m <= rest {
+        return m;
+    }
+    rest
+}
+
+// The place of n and of the smaller of k and n - k among all pairs of a row length and a number up to its half.
+pub fn half_place(n: u64, k: u64) -> u64
+    requires { ⌜ (n ≤ 16) × (k ≤ n) ⌝ }
+    ensures { λ r. ⌜ r ≡ halfPlace n k ⌝ }
+{
+    (n + 1) * (n + 1) / 4 + nearer(n, k)
+}
+
+// The table's entry for q, n and k: the Gaussian coefficient, 0 where it is above 2^64 - 1.
 pub fn coefficient(q: u64, n: u64, k: u64) -> u64
     requires { ⌜ T (isFieldSize q) × (n ≤ 16) × (k ≤ 16) ⌝ }
     ensures { λ r. ⌜ r ≡ tableEntry q n k ⌝ }
 {
-    let at = n * 17 + k;
-    match q {
-        2 => lookup::of_two(at),
-        3 => lookup::of_three(at),
-        5 => lookup::of_five(at),
-        _ => lookup::of_seven(at),
+    if n < k {
+        return 0;
     }
+    let part = field::place(q) as u64;
+    lookup::count(part * 81 + half_place(n, k))
 }
 
 // q^m.
@@ -41,9 +57,9 @@ pub fn power(q: u64, m: usize) -> u64
 {
     match q {
         2 => 1u64 << m,
-        3 => powers::of_three(m as u64),
-        5 => powers::of_five(m as u64),
-        _ => powers::of_seven(m as u64),
+        3 => lookup::power(m as u64),
+        5 => lookup::power(41 + m as u64),
+        _ => lookup::power(69 + m as u64),
     }
 }
 

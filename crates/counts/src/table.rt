@@ -1,5 +1,6 @@
-// Document 01's "one table of 1,156 numbers": the counts for q = 2, 3, 5, 7 and n, k from 0 to 16, at place (q * 17 + n) * 17 + k
-// where q counts its place among the four. A count above 2^64 - 1 is entered as 0.
+// Document 01's "one table": the counts for the field sizes, rising, and n and k from 0 to 16, at
+// place (p * 17 + n) * 17 + k where p is the place of the size. A count above 2^64 - 1 is entered as 0.
+// Made by tools/tables.
 pub const COUNTS: [u64; 1156] = [
     1,
     0,

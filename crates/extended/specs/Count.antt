@@ -28,7 +28,7 @@ use lib.Arith.{digits-lt, digits-div, digits-mod}
 use Rattle.basics.specs.Order.{le-or-lt}
 use Rattle.matrix.specs.Shape.{Shape, empty, free, pivot, Valid, valid-empty, valid-free, valid-pivot}
 use Rattle.counts.specs.Gaussian.{gaussian}
-use Rattle.counts.specs.Laws.{gaussian-free-le}
+use Rattle.counts.specs.laws.GaussianLaws.{gaussian-free-le}
 use Rattle.extended.specs.Ranked.{extendedRank, extendedShape}
 
 pub rank-below : {q k n : ℕ} {s : Shape} → Valid q k n s → extendedRank q s k n < gaussian q n k

@@ -14,7 +14,7 @@ use Rattle.matrix.specs.Matrix.{pivotAt}
 use Rattle.matrix.specs.Shape.{Shape}
 use Rattle.matrix.specs.Located.{Located}
 use Rattle.counts.specs.Gaussian.{gaussian}
-use Rattle.counts.specs.Laws.{gaussian-longer-le, gaussian-pivot-le}
+use Rattle.counts.specs.laws.GaussianLaws.{gaussian-longer-le, gaussian-pivot-le}
 
 -- one column more, or one column and one row
 part-step : (q c k N K : ℕ) → 0 < q → k ≤ suc K → c ≤ suc N → suc K - k ≤ suc N - c

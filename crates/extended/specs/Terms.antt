@@ -23,9 +23,9 @@ use Rattle.matrix.specs.Located.{Located, free-no-pivot, pivot-here}
 use Rattle.matrix.specs.Column.{LocatedColumn, at-free, at-pivot, located-column}
 use Rattle.counts.specs.Gaussian.{gaussian, tableEntry}
 use Rattle.settings.specs.laws.Accepted.{Accepted}
-use Rattle.counts.specs.Laws.{entry-within}
+use Rattle.counts.specs.laws.GaussianLaws.{entry-within}
 use Rattle.field.specs.Small.{size-small}
-use Rattle.counts.specs.Laws.{gaussian-longer-le}
+use Rattle.counts.specs.laws.GaussianLaws.{gaussian-longer-le}
 use Rattle.extended.specs.Extended.{ones, extendedTerm, extendedIndex}
 use Rattle.extended.specs.Formula.{ones-before, term-free, term-pivot}
 use Rattle.extended.specs.Part.{located-count}

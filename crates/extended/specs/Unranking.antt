@@ -18,9 +18,9 @@ use Rattle.field.specs.Small.{size-small}
 use Rattle.matrix.specs.Written.{digitAt, unitAt, Blank, Written}
 use Rattle.matrix.specs.Drawing.{Drawing, drawing-start, drawing-blank, drawing-free, drawing-pivot, drawing-end}
 use Rattle.counts.specs.Gaussian.{gaussian, greatestCount, tableEntry}
-use Rattle.counts.specs.Laws.{gaussian-longer-le, gaussian-pivot-le}
+use Rattle.counts.specs.laws.GaussianLaws.{gaussian-longer-le, gaussian-pivot-le}
 use Rattle.settings.specs.laws.Accepted.{Accepted}
-use Rattle.counts.specs.Laws.{entry-within}
+use Rattle.counts.specs.laws.GaussianLaws.{entry-within}
 use Rattle.extended.specs.Ranked.{extendedShape, drawnExtended}
 use Rattle.extended.specs.Count.{shape-free, shape-pivot, factor-positive, no-row-free, after-free}
 

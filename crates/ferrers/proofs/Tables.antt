@@ -1,20 +1,19 @@
 -- The packed partition counts: their rule at the places where the code reads, and the bounds of these places.
 use mathlib.Core.Path.{_≡_, refl, ap, ap₂, _∙_, sym}
 use mathlib.Core.List.{List, []}
-use mathlib.Core.Logic.{_⊎_, inl, inr}
 use Prim.Native.Nat.{ℕ, _+_, _*_, _-_, _<_, _≤_, _/_, _%_}
 use native.Mathlib.Omega.{arith}
-use borrow.Author.Tests.{le-leb, lt-leb}
+use borrow.Author.Tests.{le-leb}
 use lib.ListN.{getD, length}
-use Rattle.basics.specs.Order.{le-or-lt}
 use Rattle.basics.specs.Ragged.{ragged, ragged-at}
 use Rattle.basics.specs.Sum.{sum}
 use Rattle.basics.specs.Test.{every, equal, below}
 use Rattle.basics.specs.Table.{tabulate, table-at}
 use Rattle.basics.specs.TableSize.{tabulate-length}
+use Rattle.counts.specs.laws.Halves.{halfPlace, half-below}
 use Rattle.ferrers.specs.Ranked.{boxCount}
 use Rattle.ferrers.specs.BoxTable.{boxRow, boxSize, boxTable, level, nextRows, addRows, shifted, level-at}
-use Rattle.ferrers.specs.Packed.{places, shorter, boxBegin, readBox}
+use Rattle.ferrers.specs.Packed.{keptCounts, packFour, words, begins, boxBegin, readBox}
 
 -- each row has its length, by one computed test
 rows-sized : (t : ℕ) → t < 289 → length (boxRow t) ≡ boxSize t
@@ -26,7 +25,7 @@ readRow t = tabulate (readBox (t / 17) (t % 17)) 0 (boxSize t)
 
 -- all counts are read right, by one computed test
 tables-right : ragged readRow 0 289 ≡ boxTable
-unfolding boxTable ragged tabulate level nextRows addRows shifted places sum
+unfolding boxTable ragged tabulate level nextRows addRows shifted keptCounts packFour words begins sum
 tables-right = refl
 
 module _ (n k m : ℕ) (narrow : n ≤ 16) (inside : k ≤ n) (room : m ≤ k * (n - k)) where
@@ -53,18 +52,9 @@ module _ (n k m : ℕ) (narrow : n ≤ 16) (inside : k ≤ n) (room : m ≤ k * 
       ∙ level-at n k m
 
 -- the counts begin below 888, by one computed test
-place-below : (t : ℕ) → t < 153 → getD places t 0 < 888
-unfolding places tabulate sum
-place-below = every (λ t. getD places t 0 < 888) (λ t. below (getD places t 0) 888) 153 .shows tt
-
-pub shorter-below : (n k : ℕ) → n ≤ 16 → k ≤ n → shorter n k ≤ 8
-shorter-below n k narrow inside = cases (le-or-lt (k + k) n)
-  where
-    cases : (k + k ≤ n) ⊎ (n < k + k) → shorter n k ≤ 8
-    cases (inl h) = rw (le-leb _ _ h) (omega arith)
-    cases (inr h) = rw (lt-leb _ _ h) (omega arith)
+place-below : (t : ℕ) → t < 82 → getD begins t 0 < 888
+unfolding begins ragged tabulate sum
+place-below = every (λ t. getD begins t 0 < 888) (λ t. below (getD begins t 0) 888) 82 .shows tt
 
 pub begin-below : (n k : ℕ) → n ≤ 16 → k ≤ n → boxBegin n k < 888
-begin-below n k narrow inside =
-    let short : shorter n k ≤ 8 = shorter-below n k narrow inside in
-    place-below (n * 9 + shorter n k) (omega arith)
+begin-below n k narrow inside = let h : halfPlace n k ≤ 81 = half-below n k narrow inside in place-below (halfPlace n k) (omega arith)

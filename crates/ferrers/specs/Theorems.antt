@@ -21,7 +21,7 @@ use Rattle.basics.specs.Lexicographic.{lex-irreflexive, lex-transitive}
 use Rattle.basics.specs.Order.{le-or-lt}
 use Rattle.basics.specs.Sum.{Lex}
 use Rattle.counts.specs.Gaussian.{gaussian}
-use Rattle.counts.specs.Laws.{gaussian-none}
+use Rattle.counts.specs.laws.GaussianLaws.{gaussian-none}
 use Rattle.matrix.specs.Matrix.{Reduced}
 use Rattle.matrix.specs.Peel.{peeled-of}
 use Rattle.matrix.specs.ShapeLaws.{peeled-valid}

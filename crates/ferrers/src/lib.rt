@@ -10,35 +10,13 @@ ghost use Rattle.matrix.specs.Matrix.{identifying, Reduced};
 ghost use Rattle.matrix.specs.Shape.{Shape, cell, flatten};
 ghost use Rattle.ferrers.specs.Ferrers.{size, diagram, diagramPlace, tableauValue, largerDiagrams, ferrersIndex};
 ghost use Rattle.ferrers.specs.Ranked.{boxCount, freeCount, drawnFerrers};
-ghost use Rattle.ferrers.specs.Packed.{shorter as shorterSide, nearer as nearerEnd, packed as packedCount, boxBegin};
+ghost use Rattle.ferrers.specs.Packed.{packed as packedCount, boxBegin};
 ghost use Rattle.ferrers.specs.Searching.{Found};
 ghost use Rattle.ferrers.specs.DiagramVector.{diagramVector};
 ghost use Rattle.ferrers.specs.Unranking.{Shaped};
 
 // An index of the Ferrers numbering; it never stands for an extended index.
 pub struct FerrersIndex(pub u64);
-
-// The shorter side of the box of k rows and n - k columns.
-fn shorter(n: usize, k: usize) -> usize
-    requires { ⌜ (n ≤ 16) × (k ≤ n) ⌝ }
-    ensures { λ r. ⌜ r ≡ shorterSide n k ⌝ }
-{
-    if k + k <= n {
-        return k;
-    }
-    n - k
-}
-
-// m or limit - m, whichever is nearer to an end of 0 to limit.
-fn nearer(limit: usize, m: usize) -> usize
-    requires { ⌜ (limit ≤ 256) × (m ≤ limit) ⌝ }
-    ensures { λ r. ⌜ r ≡ nearerEnd limit m ⌝ }
-{
-    if m + m <= limit {
-        return m;
-    }
-    limit - m
-}
 
 // The i-th of the packed partition counts.
 fn packed(i: u64) -> u64
@@ -52,7 +30,7 @@ fn box_begin(n: usize, k: usize) -> u64
     requires { ⌜ (n ≤ 16) × (k ≤ n) ⌝ }
     ensures { λ r. ⌜ r ≡ boxBegin n k ⌝ }
 {
-    lookup::begin((n * 9 + shorter(n, k)) as u64)
+    lookup::begin(counts::half_place(n as u64, k as u64))
 }
 
 // p(k, n-k, m), the number of Ferrers diagrams of m dots in a box of k rows and n - k columns, which has room for `limit` dots; its counts
@@ -61,7 +39,7 @@ fn box_entry(n: usize, k: usize, begin: u64, limit: usize, m: usize) -> u64
     requires { ⌜ (n ≤ 16) × (k ≤ n) × (begin ≡ boxBegin n k) × (limit ≡ k * (n - k)) × (m ≤ limit) ⌝ }
     ensures { λ r. ⌜ r ≡ boxCount n k m ⌝ }
 {
-    packed(begin + nearer(limit, m) as u64)
+    packed(begin + counts::nearer(limit as u64, m as u64))
 }
 
 // The same for any k and m; 0 where there is no such box or no room.
@@ -211,8 +189,8 @@ fn find_size(q: u64, n: usize, k: usize, index: u64) -> SizedIndex
     SizedIndex { size: 0, rest }
 }
 
-// The identifying vector of the diagram of `size` dots at the given place, column by column from the right. Of the diagrams of `dots` dots that
-// are left, `earlier` come before this one, and the first `free` of them begin with a free column.
+// The identifying vector of the diagram of `size` dots at the given place, column by column from the right. Of the diagrams of `dots` dots
+// that are left, `earlier` come before this one, and the first `free` of them begin with a free column.
 fn vector_at(n: usize, k: usize, size: usize, place: u64) -> u16
     requires { ⌜ (n ≤ 16) × (place < boxCount n k size) ⌝ }
     ensures { λ r. ⌜ r ≡ diagramVector n k size place ⌝ }
@@ -237,8 +215,8 @@ fn vector_at(n: usize, k: usize, size: usize, place: u64) -> u16
     v
 }
 
-// Writes the reduced matrix with the identifying vector v and the given tableau, column by column from the left: the tableau's last digits are
-// those of the first columns.
+// Writes the reduced matrix with the identifying vector v and the given tableau, column by column from the left: the tableau's last digits
+// are those of the first columns.
 fn draw(m: &mut [u8], q: u64, n: usize, k: usize, v: u16, tableau: u64)
     requires { ⌜ Accepted q n k × ((s : Shape) × Shaped q n k v tableau s) × (length (now m) ≡ k * n) ⌝ }
     ensures { λ _. ⌜ ((s : Shape) → Shaped q n k v tableau s → now (m .exit) ≡ flatten k n (cell q s k n)) ⌝ }

@@ -13,7 +13,7 @@ use Rattle.basics.specs.Order.{le-or-lt}
 use Rattle.field.specs.Small.{size-small}
 use Rattle.matrix.specs.Matrix.{Reduced}
 use Rattle.counts.specs.Gaussian.{gaussian}
-use Rattle.counts.specs.Laws.{gaussian-whole}
+use Rattle.counts.specs.laws.GaussianLaws.{gaussian-whole}
 use Rattle.settings.specs.laws.Accepted.{Accepted}
 use Rattle.extended.specs.Ranked.{drawnExtended}
 use Rattle.extended.specs.Theorems.{drawn-reduced}

@@ -45,5 +45,5 @@ pub fn count(q: u64, n: u64, k: u64) -> Counted
     if refusal != 0 {
         return Counted::Refused(refusal);
     }
-    Counted::Count(counts::table_entry(q, n, k))
+    Counted::Count(counts::coefficient(q, n, k))
 }

@@ -67,19 +67,19 @@ every : All Holds (marked ++ (readings ++ refusals))
 unfolding listingOutput header linesFrom listingLine listRefusal parsed fieldAt decimalAt digitRun isDigit reading isNumeral lineWith numeral numeralWithin rowsText rowText gaussian rowLengthOk shapeOk countOk settingsRefusal countOf isFieldSize add multiply negate inverseFrom invert leadFrom lead pivotAt identifying columnValue entriesBelow columnAlone rowReduced isReduced topValue cell flatten ones extendedTermAt extendedTerm extendedIndex extendedColumn extendedBefore extendedRank extendedShape drawnExtended partitionsRow partitions freeFrom freeColumns dots diagram total size dottedFrom tableauOf tableau tableauValue diagramTerm diagramPlace largerDiagrams ferrersIndex shapeSize boxCount shapePlace shapeTableau ferrersRank diagramShape sizedShape ferrersShape drawnFerrers leadOf eliminate residue monic place insertResidue insertRow insertRows reducedRows join reducedOf dimension combinationAt combination InSpan SameSpan rowsOf HasDimension refuseUnless first unlessRefused isNumbering numberingOf choiceRefusal drawRefusal drawBuffer entriesRefusal numberRefusal numberOf reduceRefusal reduceBuffer spaceAnswer rowsRefusal receiveRefusal receiveOf allBelow sum sumRange value tabulate padded refusedWord refusedLine reduceOf convertRefusal convertNumber convertOf startOf wellFormed heldRows holding takeRefusal takenIn takeOf closeRefusal closeOf bytesOf exportedRefusal exportedNumber exportedOf exportedBytes spaceRefusal
 every = each (marked ++ (readings ++ refusals)) refl
 
-front : {P : Example → Type 0} (xs : List Example) {ys : List Example} → All P (xs ++ ys) → All P xs
-front [] h = none
-front (x ∷ xs) (more p ps) = more p (front xs ps)
+front : {P : Example → Type 0} (xs ys : List Example) → All P (xs ++ ys) → All P xs
+front [] ys h = none
+front (x ∷ xs) ys (more p ps) = more p (front xs ys ps)
 
-behind : {P : Example → Type 0} (xs : List Example) {ys : List Example} → All P (xs ++ ys) → All P ys
-behind [] h = h
-behind (x ∷ xs) (more p ps) = behind xs ps
+behind : {P : Example → Type 0} (xs ys : List Example) → All P (xs ++ ys) → All P ys
+behind [] ys h = h
+behind (x ∷ xs) ys (more p ps) = behind xs ys ps
 
 pub examples-hold : All Holds marked
-examples-hold = front marked every
+examples-hold = front marked (readings ++ refusals) every
 
 pub readings-hold : All Holds readings
-readings-hold = front readings (behind marked every)
+readings-hold = front readings refusals (behind marked (readings ++ refusals) every)
 
 pub refusals-hold : All Holds refusals
-refusals-hold = behind readings (behind marked every)
+refusals-hold = behind readings refusals (behind marked (readings ++ refusals) every)

@@ -5,9 +5,9 @@ use native.Mathlib.Nat.{le-trans}
 use native.Mathlib.Omega.{arith}
 use Rattle.field.specs.Small.{size-small}
 use Rattle.counts.specs.Gaussian.{gaussian}
-use Rattle.counts.specs.Laws.{gaussian-free-le, gaussian-longer-le}
-use Rattle.counts.specs.Powers.{power-small}
-use Rattle.counts.specs.Laws.{entry-within}
+use Rattle.counts.specs.laws.GaussianLaws.{gaussian-free-le, gaussian-longer-le}
+use Rattle.counts.specs.laws.Powers.{power-small}
+use Rattle.counts.specs.laws.GaussianLaws.{entry-within}
 use borrow.Author.Needs.{needs}
 use Rattle.counts.proofs.free_count.Statement.{statement}
 use Rattle.counts.proofs.free_count.Tie as tie

@@ -1,37 +1,28 @@
 -- `ferrers::box_entry` meets its contract: the rule of the packed partition counts at the place of the box and the number of dots.
 use mathlib.Core.Path.{ap, ap₂, _∙_, subst}
-use mathlib.Core.Bool.{Bool, true, false}
-use Prim.Native.Nat.{ℕ, _+_, _-_, _≤_}
+use Prim.Native.Nat.{_+_, _≤_}
 use native.Mathlib.Omega.{arith}
-use lib.Dec.{leb}
-use Rattle.basics.specs.Choice.{pick}
-use Rattle.ferrers.specs.Packed.{nearer, packed}
+use Rattle.counts.specs.laws.Nearer.{nearer, nearer-twice}
+use Rattle.ferrers.specs.Packed.{packed}
 use Rattle.ferrers.specs.Weights.{size-short}
 use Rattle.ferrers.proofs.Tables.{begin-below, box-at}
 use borrow.Author.Needs.{needs}
 use Rattle.ferrers.proofs.box_entry.Statement.{statement}
 use Rattle.ferrers.proofs.box_entry.Tie as tie
 
-nearer-below : (limit m : ℕ) → m ≤ limit → nearer limit m ≤ limit
-nearer-below limit m h = cases (leb (m + m) limit)
-  where
-    cases : (b : Bool) → pick b m (limit - m) ≤ limit
-    cases true = h
-    cases false = omega arith
-
 -- the box has room for at most 64 dots
 room : (c : tie.Start) → c .args .limit ≤ 256
 room c = omega (arith, c .pre .3, size-short (c .args .n) (omega arith) (c .args .k) (omega arith))
 
 nearer-requires : tie.Need-nearer-requires
-nearer-requires c κs = (room c, c .pre .4)
+nearer-requires c κs = c .pre .4
 
 add-packed : tie.Need-add-packed
 add-packed c =
     let s = c .before in
     let a = s .args in
-    omega
-    (arith, s .pre .2, begin-below (a .n) (a .k) (s .pre .0) (s .pre .1), nearer-below (a .limit) (a .m) (s .pre .4), room s, c .nearer .ensures)
+    let near = nearer-twice (a .limit) (a .m) (s .pre .4) in
+    omega (arith, s .pre .2, begin-below (a .n) (a .k) (s .pre .0) (s .pre .1), near, room s, c .nearer .ensures)
 
 packed-requires : tie.Need-packed-requires
 packed-requires c κs = search needs

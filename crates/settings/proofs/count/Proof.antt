@@ -25,14 +25,14 @@ returns c =
     let e = ap Refused told ∙ kept _ _ _ (λ z. c .if1 .taken (told ∙ z)) in
     (e, count-told _ _ _ _ e)
 
-table-entry-requires : tie.Need-table-entry-requires
-table-entry-requires c κs = let a = settings c in (a .size, a .narrow, omega arith)
+coefficient-requires : tie.Need-coefficient-requires
+coefficient-requires c κs = let a = settings c in (a .size, a .narrow, omega arith)
 
 returns-2 : tie.Need-returns-2
 unfolding countOf
 returns-2 c =
-    let e = ap Count (c .table-entry .ensures ∙ entry-of-accepted _ _ _ (settings (c .before))) ∙ done _ _ _ (unrefused (c .before)) in
+    let e = ap Count (c .coefficient .ensures ∙ entry-of-accepted _ _ _ (settings (c .before))) ∙ done _ _ _ (unrefused (c .before)) in
     (e, count-told _ _ _ _ e)
 
 pub count-spec : {M : Type 1} → statement M
-count-spec = tie.close (tie.spec settings-refusal-requires returns table-entry-requires returns-2)
+count-spec = tie.close (tie.spec settings-refusal-requires returns coefficient-requires returns-2)

@@ -20,7 +20,7 @@ use Rattle.refusal.specs.Refusal.{fieldSizeRefusal, shapeRefusal, countRefusal,
 use Rattle.refusal.specs.laws.First.{test-refused, test-passed, test-zero, first-none, told-number, told-value}
 use Rattle.field.specs.Field.{isFieldSize}
 use Rattle.counts.specs.Gaussian.{gaussian, greatestCount, tableEntry}
-use Rattle.counts.specs.Laws.{gaussian-positive, entry-within}
+use Rattle.counts.specs.laws.GaussianLaws.{gaussian-positive, entry-within}
 use Rattle.settings.specs.Settings.{rowLengthOk, shapeOk, countOk, settingsRefusal, countOf, countNumber, countValue}
 use Rattle.settings.specs.declared.Counted.{Counted}
 use Rattle.settings.specs.declared.Counted.the-variants.{Count, Refused}

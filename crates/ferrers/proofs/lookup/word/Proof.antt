@@ -1,11 +1,14 @@
--- `ferrers::lookup::word` meets its contract: each arm by computing the list's entry at its place.
-use mathlib.Core.Path.{refl}
+-- `ferrers::lookup::word` meets its contract: each arm by computing the list's entry at its key.
+-- Made by tools/tables.
 use Rattle.basics.specs.LookUp.{arm, past}
-use Rattle.ferrers.specs.Packed.{words}
+use Rattle.basics.specs.Ragged.{ragged}
+use Rattle.ferrers.specs.BoxTable.{level, nextRows, addRows, shifted}
+use Rattle.ferrers.specs.Packed.{keptCounts, packFour, words}
 use Rattle.ferrers.proofs.lookup.word.Statement.{statement}
 use Rattle.ferrers.proofs.lookup.word.Tie as tie
 
 pub word-spec : {M : Type 1} → statement M
+unfolding words packFour keptCounts ragged level nextRows addRows shifted
 word-spec =
     tie.close
     (tie.spec
@@ -231,4 +234,4 @@ word-spec =
     (λ c. arm words 219 (c .match .keys220))
     (λ c. arm words 220 (c .match .keys221))
     (λ c. arm words 221 (c .match .keys222))
-    (λ c. past words 222 _ refl (c .match .rest)))
+    (λ c. past words _ (c .match .rest)))
