@@ -1,7 +1,6 @@
 /*
  * The list program of the second implementation: for any input the whole text that document 01 asks for. A listing
- * comes in two makes: by the formulas, each extended index drawn and its matrix numbered; or by the orders alone,
- * all reduced matrices sorted by either of them.
+ * comes from the orders alone: all reduced matrices, sorted by either of them.
  */
 #include "second.h"
 
@@ -75,19 +74,7 @@ static void write_line(FILE *out, uint64_t n, uint64_t k, uint64_t extended, uin
     fwrite(line, 1, (size_t)(text - line), out);
 }
 
-static void list_by_formulas(FILE *out, uint64_t q, uint64_t n, uint64_t k, uint64_t count)
-{
-    uint8_t matrix[MAX_LENGTH * MAX_LENGTH];
-    size_t length = (size_t)(k * n);
-    for (uint64_t index = 0; index < count; index++) {
-        uint64_t ferrers;
-        second_draw(q, n, k, EXTENDED, index, matrix, length);
-        second_number(q, n, k, FERRERS, matrix, length, &ferrers);
-        write_line(out, n, k, index, ferrers, matrix);
-    }
-}
-
-static void list_by_orders(FILE *out, uint64_t q, uint64_t n, uint64_t k, uint64_t count)
+static void list_all(FILE *out, uint64_t q, uint64_t n, uint64_t k, uint64_t count)
 {
     size_t length = (size_t)(k * n), listed = 0;
     uint8_t *extended = malloc(count * length + 1), *ferrers = malloc(count * length + 1);
@@ -105,7 +92,7 @@ static void list_by_orders(FILE *out, uint64_t q, uint64_t n, uint64_t k, uint64
     free(ferrers);
 }
 
-uint32_t second_list(const uint8_t *input, size_t length, uint32_t make, FILE *out)
+uint32_t second_list(const uint8_t *input, size_t length, FILE *out)
 {
     uint64_t numbers[3], count;
     uint32_t refusal = read_settings(input, length, numbers, &count);
@@ -114,9 +101,6 @@ uint32_t second_list(const uint8_t *input, size_t length, uint32_t make, FILE *o
         return refusal;
     }
     fputs("extended,ferrers,rows\n", out);
-    if (make == BY_ORDERS)
-        list_by_orders(out, numbers[0], numbers[1], numbers[2], count);
-    else
-        list_by_formulas(out, numbers[0], numbers[1], numbers[2], count);
+    list_all(out, numbers[0], numbers[1], numbers[2], count);
     return ACCEPTED;
 }

@@ -94,13 +94,30 @@ fn spanned(refusal: u32, space: Space) -> Answer {
     }
 }
 
-#[no_mangle]
-pub extern "C" fn harness_close(image: Image, numbering: u64) -> Answer {
-    match receiver_of(image).close(numbering) {
+fn answered(received: Received) -> Answer {
+    match received {
         Received::Extended(index) => crate::done(index.0),
         Received::Ferrers(index) => crate::done(index.0),
         Received::TooFew(space) => spanned(refusal::TOO_FEW, space),
         Received::TooMany(space) => spanned(refusal::TOO_MANY, space),
         Received::Refused(refusal) => crate::refused(refusal),
     }
+}
+
+#[no_mangle]
+pub extern "C" fn harness_close(image: Image, numbering: u64) -> Answer {
+    answered(receiver_of(image).close(numbering))
+}
+
+// Receive by value.
+#[no_mangle]
+pub extern "C" fn harness_receive(
+    q: u64,
+    n: u64,
+    k: u64,
+    numbering: u64,
+    row_count: u64,
+    rows: &[u8],
+) -> Answer {
+    answered(pandrwyg::receive::receive(q, n, k, numbering, row_count, rows))
 }
