@@ -3,7 +3,8 @@
  * stack that the two C calls use. A time is the median of several samples, each over prepared random inputs, in
  * nanoseconds a call. A ratio is the library's time divided by the other's: above 1, the library takes longer.
  *
- *   plain    plain C through the same interface: a receiver goes in by value and comes back by value, as with the library
+ *   plain    plain C through the same interface: a receiver goes in by value and comes back by value, as with the
+ *            library. It has one Take, which stands beside both of the library's
  *   packed   Reduce and Receive at q = 2 beside an expert's C with rows as 16-bit words (packed.h)
  *   FLINT    Reduce beside nmod_mat_rref, where WITH_FLINT is defined
  *   a row    Take beside the library's own Receive of 64 rows, its time divided by 64: what a row costs in one call
@@ -79,6 +80,11 @@ static size_t rows_length(void)
     return (size_t)(row_count * now.n);
 }
 
+static size_t square(void)
+{
+    return (size_t)(now.n * now.n);
+}
+
 /* A random linear combination of the matrix's rows. */
 static void mix(const uint8_t *matrix, uint8_t *row)
 {
@@ -96,7 +102,7 @@ static void mix_matrix(const uint8_t *matrix, uint8_t *mixed)
     do
         for (uint64_t row = 0; row < row_count; row++)
             mix(matrix, mixed + row * now.n);
-    while (plain_reduce(now.q, now.n, row_count, mixed, rows_length(), out, (size_t)(now.n * now.n)).dimension != now.k);
+    while (plain_reduce(now.q, now.n, row_count, mixed, rows_length(), out, square()).dimension != now.k);
 }
 
 static void prepare(setting s, uint64_t chosen, uint64_t mixed_rows)
@@ -207,17 +213,17 @@ static uint64_t count_plain(unsigned input)
 
 static uint64_t reduce_library(unsigned input)
 {
-    return harness_reduce(now.q, now.n, row_count, rows[input], rows_length(), out, (size_t)(now.n * now.n)).dimension;
+    return harness_reduce(now.q, now.n, row_count, rows[input], rows_length(), out, square()).dimension;
 }
 
 static uint64_t reduce_plain(unsigned input)
 {
-    return plain_reduce(now.q, now.n, row_count, rows[input], rows_length(), out, (size_t)(now.n * now.n)).dimension;
+    return plain_reduce(now.q, now.n, row_count, rows[input], rows_length(), out, square()).dimension;
 }
 
 static uint64_t reduce_packed(unsigned input)
 {
-    return packed_reduce(now.q, now.n, row_count, rows[input], rows_length(), out, (size_t)(now.n * now.n)).dimension;
+    return packed_reduce(now.q, now.n, row_count, rows[input], rows_length(), out, square()).dimension;
 }
 
 static uint64_t received(uint32_t refusal)
@@ -449,10 +455,10 @@ static double compare_receive(setting s, uint64_t chosen, uint64_t mixed_rows)
     char call[32];
     prepare(s, chosen, mixed_rows);
     snprintf(call, sizeof call, "receive %" PRIu64 " rows", mixed_rows);
-    double time = compare(mixed_rows == s.k ? "receive k rows" : "receive 64 rows", call, receive_library, receive_plain);
+    bool few = mixed_rows == s.k;
+    double time = compare(few ? "receive k rows" : "receive 64 rows", call, receive_library, receive_plain);
     if (s.q == 2)
-        compare(mixed_rows == s.k ? "receive k rows, packed" : "receive 64 rows, packed", "  packed", receive_library,
-                receive_packed);
+        compare(few ? "receive k rows, packed" : "receive 64, packed", "  packed", receive_library, receive_packed);
     return time;
 }
 

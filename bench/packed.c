@@ -48,7 +48,8 @@ static inline unsigned highest_bit(unsigned word)
 static void insert_rows(const uint8_t *rows, unsigned n, unsigned row_count, uint16_t *by_bit, packed_space *space)
 {
     for (unsigned at = 0; at < row_count && space->count < n; at++) {
-        unsigned word = at * n + PLAIN_LENGTH <= row_count * n ? pack_row(rows + at * n, n) : pack_last_row(rows + at * n, n);
+        const uint8_t *row = rows + at * n;
+        unsigned word = at * n + PLAIN_LENGTH <= row_count * n ? pack_row(row, n) : pack_last_row(row, n);
         while (word != 0) {
             unsigned bit = highest_bit(word);
             if (by_bit[bit] == 0) {
@@ -126,16 +127,9 @@ static uint64_t ferrers_index(const packed_space *space, unsigned n, const uint1
 plain_answer packed_reduce(uint64_t q, uint64_t n, uint64_t row_count, const uint8_t *rows, size_t rows_length,
                            uint8_t *out, size_t out_length)
 {
-    if (q != 2)
-        return (plain_answer){PLAIN_NO_FIELD, 0, 0};
-    if (n < 1 || n > PLAIN_LENGTH)
-        return (plain_answer){PLAIN_NO_SHAPE, 0, 0};
-    if (row_count > PLAIN_ROWS)
-        return (plain_answer){PLAIN_NO_ROW_COUNT, 0, 0};
-    if (rows_length != row_count * n || out_length != n * n)
-        return (plain_answer){PLAIN_NO_LENGTH, 0, 0};
-    if (!plain_below(2, rows, rows_length))
-        return (plain_answer){PLAIN_NO_ENTRY, 0, 0};
+    uint32_t refusal = plain_reduce_refusal(q, n, row_count, rows, rows_length, out_length);
+    if (refusal != PLAIN_DONE || q != 2)
+        return (plain_answer){refusal, 0, 0};
     packed_space space = reduce_rows(rows, (unsigned)n, (unsigned)row_count);
     memset(out, 0, out_length);
     for (unsigned row = 0; row < space.count; row++)
@@ -148,21 +142,14 @@ uint32_t packed_receive(uint64_t q, uint64_t n, uint64_t k, uint64_t numbering, 
 {
     uint16_t columns[PLAIN_LENGTH];
     uint64_t index = 0;
-    uint32_t refusal = q == 2 ? plain_choice(q, n, k, numbering) : PLAIN_NO_FIELD;
-    if (refusal != PLAIN_DONE)
+    uint32_t refusal = plain_receive_refusal(q, n, k, numbering, row_count, rows, rows_length, answer_length);
+    if (refusal != PLAIN_DONE || q != 2)
         return refusal;
-    if (row_count > PLAIN_ROWS)
-        return PLAIN_NO_ROW_COUNT;
-    if (rows_length != row_count * n || answer_length != PLAIN_ANSWER)
-        return PLAIN_NO_LENGTH;
-    if (!plain_below(2, rows, rows_length))
-        return PLAIN_NO_ENTRY;
     packed_space space = reduce_rows(rows, (unsigned)n, (unsigned)row_count);
     if (space.count == k) {
         transpose(&space, (unsigned)n, columns);
         index = numbering == PLAIN_EXTENDED ? extended_index(&space, (unsigned)n, columns)
                                             : ferrers_index(&space, (unsigned)n, columns);
     }
-    plain_leave(index, space.count, answer);
-    return space.count < k ? PLAIN_TOO_FEW : space.count > k ? PLAIN_TOO_MANY : PLAIN_DONE;
+    return plain_leave(k, space.count, index, answer);
 }

@@ -1,6 +1,7 @@
 /*
- * Reduce and Receive at q = 2 as an expert writes them: a row is a 16-bit word, its leftmost entry the highest bit, and a
- * row operation is one exclusive or. Bytes come in and go out as in the library's calls, and the tests are the same.
+ * Reduce and Receive at q = 2, and there alone, as an expert writes them: a row is a 16-bit word, its leftmost entry
+ * the highest bit, and a row operation is one exclusive or. Bytes come in and go out as in the library's calls, and the
+ * tests are the same.
  */
 #ifndef PACKED_H
 #define PACKED_H

@@ -207,7 +207,9 @@ uint32_t plain_choice(uint64_t q, uint64_t n, uint64_t k, uint64_t numbering)
 uint64_t plain_index(uint64_t q, unsigned n, unsigned k, uint64_t numbering, const uint8_t *matrix,
                      const uint8_t *pivots)
 {
-    return numbering == PLAIN_EXTENDED ? extended_index(q, n, k, matrix, pivots) : ferrers_index(q, n, k, matrix, pivots);
+    if (numbering == PLAIN_EXTENDED)
+        return extended_index(q, n, k, matrix, pivots);
+    return ferrers_index(q, n, k, matrix, pivots);
 }
 
 static void draw(uint64_t q, unsigned n, unsigned k, uint64_t numbering, uint64_t index, uint8_t *matrix)

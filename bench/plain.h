@@ -1,7 +1,7 @@
 /*
- * Plain C that does what the library's calls do: the same tests, refusals and answers, through the same interfaces, as a
- * C programmer tunes it by hand. It is what the library's speed is measured against. It shares nothing with the tests,
- * and no test leans on it; the bench compares its answers with the library's before it times the two.
+ * Plain C that does what the library's calls do: the same tests, refusals and answers, through the same interfaces, as
+ * a C programmer tunes it by hand. It is what the library's speed is measured against. It shares nothing with the
+ * tests, and no test leans on it; the bench compares its answers with the library's before it times the two.
  */
 #ifndef PLAIN_H
 #define PLAIN_H
@@ -91,6 +91,12 @@ static inline bool plain_below(uint64_t q, const uint8_t *entries, size_t length
     return most < q;
 }
 
+/* Refusals of Reduce; and of Receive, but for 8 and 9. */
+uint32_t plain_reduce_refusal(uint64_t q, uint64_t n, uint64_t row_count, const uint8_t *rows, size_t rows_length,
+                              size_t out_length);
+uint32_t plain_receive_refusal(uint64_t q, uint64_t n, uint64_t k, uint64_t numbering, uint64_t row_count,
+                               const uint8_t *rows, size_t rows_length, size_t answer_length);
+
 /* Whether the matrix is reduced; if so, the columns of its pivots from the top row. */
 bool plain_pivots(unsigned n, unsigned k, const uint8_t *matrix, uint8_t *pivots);
 
@@ -101,7 +107,7 @@ uint64_t plain_place(unsigned eta, unsigned m, const unsigned *heights);
 uint64_t plain_index(uint64_t q, unsigned n, unsigned k, uint64_t numbering, const uint8_t *matrix,
                      const uint8_t *pivots);
 
-/* The nine bytes of Receive's answer. */
-void plain_leave(uint64_t index, uint64_t dimension, uint8_t *answer);
+/* Writes the nine bytes of Receive's answer for d dimensions, the index being that of k, and answers the refusal. */
+uint32_t plain_leave(uint64_t k, uint64_t d, uint64_t index, uint8_t *answer);
 
 #endif

@@ -68,29 +68,53 @@ static unsigned insert_all(uint64_t q, unsigned n, unsigned row_count, const uin
 
 /* ---- Reduce and Receive ---- */
 
+/* Refusals 13, 4 and 6 of a list of rows, and of what is lent for the answer. */
+static uint32_t rows_refusal(uint64_t q, uint64_t n, uint64_t row_count, const uint8_t *rows, size_t rows_length,
+                             bool lent_right)
+{
+    if (row_count > PLAIN_ROWS)
+        return PLAIN_NO_ROW_COUNT;
+    if (rows_length != row_count * n || !lent_right)
+        return PLAIN_NO_LENGTH;
+    return plain_below(q, rows, rows_length) ? PLAIN_DONE : PLAIN_NO_ENTRY;
+}
+
+uint32_t plain_reduce_refusal(uint64_t q, uint64_t n, uint64_t row_count, const uint8_t *rows, size_t rows_length,
+                              size_t out_length)
+{
+    if (!plain_is_field(q))
+        return PLAIN_NO_FIELD;
+    if (n < 1 || n > PLAIN_LENGTH)
+        return PLAIN_NO_SHAPE;
+    return rows_refusal(q, n, row_count, rows, rows_length, out_length == n * n);
+}
+
+uint32_t plain_receive_refusal(uint64_t q, uint64_t n, uint64_t k, uint64_t numbering, uint64_t row_count,
+                               const uint8_t *rows, size_t rows_length, size_t answer_length)
+{
+    uint32_t refusal = plain_choice(q, n, k, numbering);
+    if (refusal != PLAIN_DONE)
+        return refusal;
+    return rows_refusal(q, n, row_count, rows, rows_length, answer_length == PLAIN_ANSWER);
+}
+
 plain_answer plain_reduce(uint64_t q, uint64_t n, uint64_t row_count, const uint8_t *rows, size_t rows_length,
                           uint8_t *out, size_t out_length)
 {
     uint8_t pivots[PLAIN_LENGTH];
-    if (!plain_is_field(q))
-        return (plain_answer){PLAIN_NO_FIELD, 0, 0};
-    if (n < 1 || n > PLAIN_LENGTH)
-        return (plain_answer){PLAIN_NO_SHAPE, 0, 0};
-    if (row_count > PLAIN_ROWS)
-        return (plain_answer){PLAIN_NO_ROW_COUNT, 0, 0};
-    if (rows_length != row_count * n || out_length != n * n)
-        return (plain_answer){PLAIN_NO_LENGTH, 0, 0};
-    if (!plain_below(q, rows, rows_length))
-        return (plain_answer){PLAIN_NO_ENTRY, 0, 0};
+    uint32_t refusal = plain_reduce_refusal(q, n, row_count, rows, rows_length, out_length);
+    if (refusal != PLAIN_DONE)
+        return (plain_answer){refusal, 0, 0};
     memset(out, 0, out_length);
     return (plain_answer){PLAIN_DONE, 0, insert_all(q, (unsigned)n, (unsigned)row_count, rows, out, pivots)};
 }
 
-void plain_leave(uint64_t index, uint64_t dimension, uint8_t *answer)
+uint32_t plain_leave(uint64_t k, uint64_t d, uint64_t index, uint8_t *answer)
 {
     for (unsigned place = 0; place < 8; place++)
         answer[place] = (uint8_t)(index >> 8 * place);
-    answer[8] = (uint8_t)dimension;
+    answer[8] = (uint8_t)d;
+    return d < k ? PLAIN_TOO_FEW : d > k ? PLAIN_TOO_MANY : PLAIN_DONE;
 }
 
 uint32_t plain_receive(uint64_t q, uint64_t n, uint64_t k, uint64_t numbering, uint64_t row_count,
@@ -98,20 +122,13 @@ uint32_t plain_receive(uint64_t q, uint64_t n, uint64_t k, uint64_t numbering, u
 {
     uint8_t matrix[PLAIN_ENTRIES], pivots[PLAIN_LENGTH];
     uint64_t index = 0;
-    uint32_t refusal = plain_choice(q, n, k, numbering);
+    uint32_t refusal = plain_receive_refusal(q, n, k, numbering, row_count, rows, rows_length, answer_length);
     if (refusal != PLAIN_DONE)
         return refusal;
-    if (row_count > PLAIN_ROWS)
-        return PLAIN_NO_ROW_COUNT;
-    if (rows_length != row_count * n || answer_length != PLAIN_ANSWER)
-        return PLAIN_NO_LENGTH;
-    if (!plain_below(q, rows, rows_length))
-        return PLAIN_NO_ENTRY;
     unsigned d = insert_all(q, (unsigned)n, (unsigned)row_count, rows, matrix, pivots);
     if (d == k)
         index = plain_index(q, (unsigned)n, (unsigned)k, numbering, matrix, pivots);
-    plain_leave(index, d, answer);
-    return d < k ? PLAIN_TOO_FEW : d > k ? PLAIN_TOO_MANY : PLAIN_DONE;
+    return plain_leave(k, d, index, answer);
 }
 
 /* ---- The receiver ---- */

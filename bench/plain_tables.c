@@ -1,4 +1,4 @@
-/* The tables of the plain C, filled once: field arithmetic, powers, Gaussian coefficients by formula (4), partitions. */
+/* The tables of the plain C, filled once: fields, powers, Gaussian coefficients by formula (4), partitions. */
 #include "plain.h"
 
 plain_field plain_fields[PLAIN_FIELD];

@@ -1,6 +1,6 @@
 /*
- * Tests the header's numbers, and what its wrappers make of null pointers and of lengths that no buffer has: the library
- * refuses in its own order, no other memory is touched, and an empty buffer may be null.
+ * Tests the header's numbers, and what its wrappers make of null pointers and of lengths that no buffer has: the
+ * library refuses in its own order, no other memory is touched, and an empty buffer may be null.
  */
 #include "check.h"
 #include "pandrwyg.h"

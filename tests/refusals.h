@@ -1,4 +1,4 @@
-/* Document 01's refusal numbers, in its words. They stand here alone: every test and every table of refusals reads them. */
+/* Document 01's refusal numbers, in its words. Every test and every table of refusals takes them from here. */
 #ifndef REFUSALS_H
 #define REFUSALS_H
 

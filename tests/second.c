@@ -14,31 +14,37 @@ bool second_entries_below(uint64_t q, const uint8_t *entries, size_t length)
     return !oversized;
 }
 
-/* Whether each pivot is the only nonzero entry of its column; those below it are zero by the pivots' sequence. */
-static bool pivots_alone(unsigned n, unsigned k, const uint8_t *matrix, const uint8_t *pivots)
+/* Whether the pivot in this column of this row is the only nonzero entry of its column. */
+static bool pivot_alone(uint64_t n, uint64_t k, const uint8_t *matrix, uint64_t row, uint64_t column)
 {
-    for (unsigned row = 1; row < k; row++)
-        for (unsigned above = 0; above < row; above++)
-            if (matrix[above * n + pivots[row]] != 0)
-                return false;
+    for (uint64_t other = 0; other < k; other++)
+        if (other != row && matrix[other * n + column] != 0)
+            return false;
     return true;
 }
 
-static bool is_reduced(unsigned n, unsigned k, const uint8_t *matrix)
+/* The column of the row's first nonzero entry; n where it is zero. */
+static uint64_t pivot_of(uint64_t n, const uint8_t *row)
 {
-    uint8_t pivots[MAX_LENGTH];
-    unsigned least = 0;
-    for (unsigned row = 0; row < k; row++) {
-        const uint8_t *entries = matrix + row * n;
-        unsigned column = 0;
-        while (column < n && entries[column] == 0)
-            column++;
-        if (column < least || column == n || entries[column] != 1)
+    uint64_t column = 0;
+    while (column < n && row[column] == 0)
+        column++;
+    return column;
+}
+
+/* Whether the matrix is reduced, row by row in document 01's words. */
+static bool is_reduced(uint64_t n, uint64_t k, const uint8_t *matrix)
+{
+    for (uint64_t row = 0; row < k; row++) {
+        uint64_t pivot = pivot_of(n, matrix + row * n);
+        if (pivot == n || matrix[row * n + pivot] != 1)
             return false;
-        pivots[row] = (uint8_t)column;
-        least = column + 1;
+        if (row > 0 && pivot <= pivot_of(n, matrix + (row - 1) * n))
+            return false;
+        if (!pivot_alone(n, k, matrix, row, pivot))
+            return false;
     }
-    return pivots_alone(n, k, matrix, pivots);
+    return true;
 }
 
 /* ---- Calls ---- */
@@ -63,7 +69,7 @@ uint32_t second_number(uint64_t q, uint64_t n, uint64_t k, uint64_t numbering,
         return refusal;
     if (!second_entries_below(q, matrix, length))
         return REFUSED_ENTRY;
-    if (!is_reduced((unsigned)n, (unsigned)k, matrix))
+    if (!is_reduced(n, k, matrix))
         return REFUSED_UNREDUCED;
     *index = second_index_of(q, n, k, numbering, matrix);
     return ACCEPTED;

@@ -13,7 +13,7 @@
 /* The most sets of k pivot columns among 16. */
 enum { VECTOR_LIMIT = 12870 };
 
-/* A matrix taken apart; start[j] is what its dots right of column j are as a number, from the right and from the top. */
+/* A matrix taken apart; start[j] is the number that its dots right of column j are, read from the right and the top. */
 typedef struct {
     uint32_t vector;
     wide start[MAX_LENGTH + 2];
@@ -79,10 +79,11 @@ static void write_column(unsigned q, unsigned n, unsigned rows, uint64_t number,
 
 /*
  * Writes column j and all to its left, the columns to its right being given. A choice below q^rows is the number that
- * column j holds in the rows that have no pivot yet; the choice after these is a pivot. Then follows the first matrix of
- * the order: no column but the last ones has a pivot, and all others are zero.
+ * column j holds in the rows that have no pivot yet; the choice after these is a pivot. The rest is what comes first in
+ * the order: the last columns of all have the pivots, and the others are zero.
  */
-static void write_choice(unsigned q, unsigned n, unsigned k, unsigned j, unsigned rows, uint64_t choice, uint8_t *matrix)
+static void write_choice(unsigned q, unsigned n, unsigned k, unsigned j, unsigned rows, uint64_t choice,
+                         uint8_t *matrix)
 {
     for (unsigned row = 0; row < k; row++)
         memset(matrix + row * n, 0, n - j + 1);

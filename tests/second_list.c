@@ -4,40 +4,47 @@
  */
 #include "second.h"
 
+#include <inttypes.h>
 #include <stdbool.h>
 #include <stdlib.h>
+#include <string.h>
 
-/* The most lines of a listing, the most digits of a number of the input, and the room for a line of the output. */
-enum { LISTING_LIMIT = 65536, DIGIT_LIMIT = 3, LINE_ROOM = 320 };
+/* The most lines of a listing, and the first number that has four digits. */
+enum { LISTING_LIMIT = 65536, NUMBER_LIMIT = 1000 };
 
 /* ---- The input ---- */
 
-/* Reads a number and the byte after it; answers where the input goes on, or NULL where it has another form. */
-static const uint8_t *read_number(const uint8_t *input, const uint8_t *end, uint8_t after, uint64_t *number)
+/* The numbers between the first commas, whatever else stands there; 1000 stands for all that are larger. */
+static void read_numbers(const uint8_t *input, size_t length, uint64_t numbers[3])
 {
-    const uint8_t *first = input;
-    *number = 0;
-    while (input < end && input - first < DIGIT_LIMIT && *input >= '0' && *input <= '9')
-        *number = *number * 10 + (uint64_t)(*input++ - '0');
-    if (input == first || (*first == '0' && input - first > 1))
-        return NULL;
-    return input < end && *input == after ? input + 1 : NULL;
+    unsigned number = 0;
+    memset(numbers, 0, 3 * sizeof *numbers);
+    for (size_t place = 0; place < length; place++) {
+        if (input[place] == ',' && number < 2)
+            number++;
+        if (input[place] >= '0' && input[place] <= '9')
+            numbers[number] = numbers[number] * 10 + (uint64_t)(input[place] - '0');
+        if (numbers[number] > NUMBER_LIMIT)
+            numbers[number] = NUMBER_LIMIT;
+    }
 }
 
-/* Whether the input is one line of three numbers. */
-static bool read_line(const uint8_t *input, size_t length, uint64_t numbers[3])
+/* Whether the input is a line of three numbers: it is what one writes for them. */
+static bool is_line(const uint8_t *input, size_t length, const uint64_t numbers[3])
 {
-    const uint8_t *end = input + length;
-    for (unsigned place = 0; place < 3 && input != NULL; place++)
-        input = read_number(input, end, place < 2 ? ',' : '\n', &numbers[place]);
-    return input != NULL && input == end;
+    char line[64];
+    size_t written = (size_t)snprintf(line, sizeof line, "%" PRIu64 ",%" PRIu64 ",%" PRIu64 "\n", numbers[0],
+                                      numbers[1], numbers[2]);
+    return numbers[0] < NUMBER_LIMIT && numbers[1] < NUMBER_LIMIT && numbers[2] < NUMBER_LIMIT && length == written &&
+           memcmp(input, line, length) == 0;
 }
 
 /* Refusals 11, 1, 2, 3 and 12. */
 static uint32_t read_settings(const uint8_t *input, size_t length, uint64_t numbers[3], uint64_t *count)
 {
     *count = 0;
-    if (!read_line(input, length, numbers))
+    read_numbers(input, length, numbers);
+    if (!is_line(input, length, numbers))
         return REFUSED_LINE;
     uint32_t refusal = second_count(numbers[0], numbers[1], numbers[2], count);
     return refusal == ACCEPTED && *count > LISTING_LIMIT ? REFUSED_LISTING : refusal;
@@ -45,33 +52,15 @@ static uint32_t read_settings(const uint8_t *input, size_t length, uint64_t numb
 
 /* ---- The output ---- */
 
-static char *put_number(char *text, uint64_t number)
-{
-    char digits[20];
-    unsigned count = 0;
-    do {
-        digits[count++] = (char)('0' + number % 10);
-        number /= 10;
-    } while (number > 0);
-    while (count > 0)
-        *text++ = digits[--count];
-    return text;
-}
-
 static void write_line(FILE *out, uint64_t n, uint64_t k, uint64_t extended, uint64_t ferrers, const uint8_t *matrix)
 {
-    char line[LINE_ROOM], *text = put_number(line, extended);
-    *text++ = ',';
-    text = put_number(text, ferrers);
-    *text++ = ',';
-    for (uint64_t row = 0; row < k; row++) {
-        if (row > 0)
-            *text++ = '/';
-        for (uint64_t column = 0; column < n; column++)
-            *text++ = (char)('0' + *matrix++);
+    fprintf(out, "%" PRIu64 ",%" PRIu64 ",", extended, ferrers);
+    for (uint64_t place = 0; place < k * n; place++) {
+        if (place > 0 && place % n == 0)
+            fputc('/', out);
+        fputc('0' + matrix[place], out);
     }
-    *text++ = '\n';
-    fwrite(line, 1, (size_t)(text - line), out);
+    fputc('\n', out);
 }
 
 static void list_all(FILE *out, uint64_t q, uint64_t n, uint64_t k, uint64_t count)

@@ -185,8 +185,8 @@ static size_t fill_all(uint64_t q, unsigned n, unsigned k, uint32_t columns, uin
 size_t second_enumerate(uint64_t q, uint64_t n, uint64_t k, uint8_t *out)
 {
     size_t written = 0;
-    for (uint32_t columns = second_first_vector(k); second_is_vector(n, columns); columns = second_next_vector(n, columns))
-        written += fill_all(q, (unsigned)n, (unsigned)k, columns, out + written * k * n);
+    for (uint32_t pivots = second_first_vector(k); second_is_vector(n, pivots); pivots = second_next_vector(n, pivots))
+        written += fill_all(q, (unsigned)n, (unsigned)k, pivots, out + written * k * n);
     return written;
 }
 

@@ -1,6 +1,6 @@
 /*
- * Tables of the second implementation: field arithmetic, powers, and counts by formula (1) on big numbers; and the calls
- * that only read them.
+ * Tables of the second implementation: field arithmetic, powers, and counts by formula (1) on big numbers; and the
+ * calls that only read them.
  */
 #include "second_parts.h"
 

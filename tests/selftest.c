@@ -34,10 +34,10 @@ static wide count_fillings(uint64_t q, unsigned n, unsigned k)
 {
     const wide limit = (wide)1 << 100;
     wide count = 0;
-    for (uint32_t vector = second_first_vector(k); second_is_vector(n, vector); vector = second_next_vector(n, vector)) {
+    for (uint32_t v = second_first_vector(k); second_is_vector(n, v); v = second_next_vector(n, v)) {
         uint8_t heights[MAX_LENGTH];
         wide fillings = 1;
-        for (unsigned dots = second_diagram(n, k, vector, heights); dots > 0 && fillings < limit; dots--)
+        for (unsigned dots = second_diagram(n, k, v, heights); dots > 0 && fillings < limit; dots--)
             fillings *= q;
         count += fillings;
     }
