@@ -458,7 +458,8 @@ static double compare_receive(setting s, uint64_t chosen, uint64_t mixed_rows)
     bool few = mixed_rows == s.k;
     double time = compare(few ? "receive k rows" : "receive 64 rows", call, receive_library, receive_plain);
     if (s.q == 2)
-        compare(few ? "receive k rows, packed" : "receive 64, packed", "  packed", receive_library, receive_packed);
+        compare(few ? "receive k, packed" : "receive 64, packed", few ? "  packed, k rows" : "  packed, 64 rows",
+                receive_library, receive_packed);
     return time;
 }
 
@@ -500,8 +501,9 @@ static void compare_reduce(uint64_t q, uint64_t n)
     prepare_reduce(q, n);
     snprintf(name, sizeof name, "reduce 64 rows q=%" PRIu64 " n=%" PRIu64, q, n);
     compare_units("reduce", name, INPUTS, 1, reduce_library, reduce_plain);
+    snprintf(name, sizeof name, "  packed q=%" PRIu64 " n=%" PRIu64, q, n);
     if (q == 2)
-        compare_units("reduce, packed", "  packed", INPUTS, 1, reduce_library, reduce_packed);
+        compare_units("reduce, packed", name, INPUTS, 1, reduce_library, reduce_packed);
 #ifdef WITH_FLINT
     prepare_flint();
     compare_units("reduce, FLINT", "  FLINT", INPUTS, 1, reduce_library, reduce_flint);
