@@ -1,13 +1,14 @@
 /*
  * Times the library's calls beside plain C that makes the same tests (plain.h), by turns in one run, and measures the
- * stack that the two C calls use. A time is the median of several samples, each over prepared random inputs, in
- * nanoseconds a call. A ratio is the library's time divided by the other's: above 1, the library takes longer.
+ * stack that the two C calls use. A time is the least of many samples, each over prepared random inputs, in nanoseconds
+ * a call: whatever else the machine does only adds to it. A ratio is the library's time divided by the other's: above 1,
+ * the library takes longer.
  *
  *   plain    plain C through the same interface: a receiver goes in by value and comes back by value, as with the
  *            library. It has one Take, which stands beside both of the library's
  *   packed   Reduce and Receive at q = 2 beside an expert's C with rows as 16-bit words (packed.h)
  *   FLINT    Reduce beside nmod_mat_rref, where WITH_FLINT is defined
- *   a row    Take beside the library's own Receive of 64 rows, its time divided by 64: what a row costs in one call
+ *   a row    Take beside the library's own Receive of 64 rows, whose time is divided by 64: what a row costs there
  *
  * Before two are timed, their answers to the prepared inputs are compared. The list programs are run as processes that
  * write to /dev/null; their time is that of a line.
@@ -27,7 +28,7 @@
 #include <flint/nmod_mat.h>
 #endif
 
-enum { INPUTS = 64, SAMPLES = 15, SAMPLE_NANOSECONDS = 1000000, ROWS_ROOM = PLAIN_ROWS * PLAIN_LENGTH };
+enum { INPUTS = 64, SAMPLES = 60, SAMPLE_NANOSECONDS = 300000, ROWS_ROOM = PLAIN_ROWS * PLAIN_LENGTH };
 
 typedef struct {
     uint64_t q, n, k;
@@ -144,7 +145,7 @@ static void prepare_receiver(unsigned input, uint64_t dimension)
 /* Receivers of 0 to k dimensions by turns, and a further row for each: what a session of so many rows meets. */
 static void prepare_takes(setting s)
 {
-    prepare(s, PLAIN_EXTENDED, 0);
+    prepare(s, PLAIN_EXTENDED, PLAIN_ROWS);
     for (unsigned input = 0; input < INPUTS; input++) {
         prepare_receiver(input, input % (s.k + 1));
         mix(matrices[input], taken[input]);
@@ -382,6 +383,11 @@ static double sample(timed_call *call, unsigned inputs, uint64_t rounds)
     return nanoseconds() - start;
 }
 
+static double lesser(double one, double two)
+{
+    return one < two ? one : two;
+}
+
 /* Warms up, and answers how many rounds make a sample long enough. */
 static uint64_t calibrate(timed_call *call, unsigned inputs)
 {
@@ -389,18 +395,6 @@ static uint64_t calibrate(timed_call *call, unsigned inputs)
     while (sample(call, inputs, rounds) < SAMPLE_NANOSECONDS)
         rounds *= 2;
     return rounds;
-}
-
-static int compare_times(const void *first, const void *second)
-{
-    double one = *(const double *)first, two = *(const double *)second;
-    return (one > two) - (one < two);
-}
-
-static double median(double *times)
-{
-    qsort(times, SAMPLES, sizeof *times, compare_times);
-    return times[SAMPLES / 2];
 }
 
 /* The worst ratio of each call, and at which line. */
@@ -422,77 +416,87 @@ static void note_worst(const char *call, const char *line, double ratio)
     snprintf(worst[place].line, sizeof worst[place].line, "%s", line);
 }
 
-/* Both sides by turns over so many inputs; each call has so many units. Prints a line and answers the library's time. */
-static double compare_units(const char *kind, const char *name, unsigned inputs, uint64_t units, timed_call *library,
-                            timed_call *other)
+static void report(const char *kind, const char *name, double library_time, double other_time)
 {
-    double library_times[SAMPLES], other_times[SAMPLES];
+    printf("%-44s %12.1f %12.1f %9.2f\n", name, library_time, other_time, library_time / other_time);
+    note_worst(kind, name, library_time / other_time);
+}
+
+/* Times two calls by turns. */
+static void measure(timed_call *first, timed_call *second, unsigned inputs, double times[2])
+{
+    uint64_t first_rounds = calibrate(first, inputs), second_rounds = calibrate(second, inputs);
+    times[0] = times[1] = 1e18;
+    for (unsigned turn = 0; turn < SAMPLES; turn++) {
+        times[0] = lesser(times[0], sample(first, inputs, first_rounds) / (double)(first_rounds * inputs));
+        times[1] = lesser(times[1], sample(second, inputs, second_rounds) / (double)(second_rounds * inputs));
+    }
+}
+
+/* Compares the answers, then the times of calls of so many units each. */
+static void compare_units(const char *kind, const char *name, unsigned inputs, uint64_t units, timed_call *library,
+                          timed_call *other)
+{
+    double times[2];
     for (unsigned input = 0; input < inputs; input++)
         if (library(input) != other(input))
             program_trouble(name);
-    uint64_t library_rounds = calibrate(library, inputs), other_rounds = calibrate(other, inputs);
-    for (unsigned place = 0; place < SAMPLES; place++) {
-        library_times[place] = sample(library, inputs, library_rounds) / (double)(library_rounds * inputs * units);
-        other_times[place] = sample(other, inputs, other_rounds) / (double)(other_rounds * inputs * units);
-    }
-    double library_time = median(library_times), other_time = median(other_times);
-    printf("%-44s %12.1f %12.1f %9.2f\n", name, library_time, other_time, library_time / other_time);
-    note_worst(kind, name, library_time / other_time);
-    return library_time;
+    measure(library, other, inputs, times);
+    report(kind, name, times[0] / (double)units, times[1] / (double)units);
 }
 
 /* The calls of one kind, at the settings and numbering of now. */
-static double compare(const char *kind, const char *call, timed_call *library, timed_call *other)
+static void compare(const char *kind, const char *call, timed_call *library, timed_call *other)
 {
     char name[64];
     snprintf(name, sizeof name, "%s " SETTING_FORMAT " %s", call, SETTING_VALUES(now),
              numbering == PLAIN_EXTENDED ? "extended" : "Ferrers");
-    return compare_units(kind, name, INPUTS, 1, library, other);
+    compare_units(kind, name, INPUTS, 1, library, other);
 }
 
-static double compare_receive(setting s, uint64_t chosen, uint64_t mixed_rows)
+static void compare_receive(setting s, uint64_t chosen, uint64_t mixed_rows)
 {
     char call[32];
+    bool few = mixed_rows == s.k;
     prepare(s, chosen, mixed_rows);
     snprintf(call, sizeof call, "receive %" PRIu64 " rows", mixed_rows);
-    bool few = mixed_rows == s.k;
-    double time = compare(few ? "receive k rows" : "receive 64 rows", call, receive_library, receive_plain);
+    compare(few ? "receive k rows" : "receive 64 rows", call, receive_library, receive_plain);
     if (s.q == 2)
         compare(few ? "receive k, packed" : "receive 64, packed", few ? "  packed, k rows" : "  packed, 64 rows",
                 receive_library, receive_packed);
-    return time;
 }
 
-/* The calls that take a numbering. Answers what a row costs in Receive. */
-static double compare_numbering(setting s, uint64_t chosen)
+/* The calls that take a numbering. */
+static void compare_numbering(setting s, uint64_t chosen)
 {
     prepare(s, chosen, 0);
     compare("draw", "draw", draw_library, draw_plain);
     compare("number", "number", number_library, number_plain);
     compare("convert", "convert from", convert_library, convert_plain);
     compare_receive(s, chosen, s.k);
-    double row = compare_receive(s, chosen, PLAIN_ROWS) / PLAIN_ROWS;
+    compare_receive(s, chosen, PLAIN_ROWS);
     prepare_closes(s, chosen);
     compare("close", "close", close_library, close_plain);
-    return row;
 }
 
-static void compare_take(setting s, double row, const char *form, timed_call *library)
+static void compare_take(setting s, const char *form, timed_call *library)
 {
     char name[64];
+    double times[2];
     prepare_takes(s);
     snprintf(name, sizeof name, "%s " SETTING_FORMAT, form, SETTING_VALUES(s));
-    double time = compare_units(form, name, INPUTS, 1, library, take_plain);
-    printf("%-44s %12.1f %12.1f %9.2f\n", "  a row of receive", time, row, time / row);
-    note_worst("take, a row of receive", name, time / row);
+    compare_units(form, name, INPUTS, 1, library, take_plain);
+    measure(library, receive_library, INPUTS, times);
+    snprintf(name, sizeof name, "  a row of receive " SETTING_FORMAT, SETTING_VALUES(s));
+    report("take, a row of receive", name, times[0], times[1] / PLAIN_ROWS);
 }
 
 static void compare_setting(setting s)
 {
-    double row = compare_numbering(s, PLAIN_EXTENDED), ferrers_row = compare_numbering(s, PLAIN_FERRERS);
-    row = row < ferrers_row ? row : ferrers_row;
-    compare_take(s, row, "take by value", take_library);
-    compare_take(s, row, "take lent", lent_library);
+    compare_numbering(s, PLAIN_EXTENDED);
+    compare_numbering(s, PLAIN_FERRERS);
+    compare_take(s, "take by value", take_library);
+    compare_take(s, "take lent", lent_library);
 }
 
 static void compare_reduce(uint64_t q, uint64_t n)
