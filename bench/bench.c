@@ -402,7 +402,7 @@ static struct {
     const char *call;
     char line[64];
     double ratio;
-} worst[16];
+} worst[20];
 
 static void note_worst(const char *call, const char *line, double ratio)
 {
