@@ -1,6 +1,6 @@
 /*
  * What the parts of the second implementation share: its tables and inner calls. Of the tests only the self-test reads
- * it, for the tables.
+ * it, for the tables and for the sets of pivot columns.
  */
 #ifndef SECOND_PARTS_H
 #define SECOND_PARTS_H
