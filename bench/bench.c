@@ -1,15 +1,26 @@
 /*
- * Times the library beside the second implementation in one run, and measures the stack that the two C calls use.
- * A time is the median of several samples, taken by turns, each over prepared random inputs; a ratio above 1 says
- * how many times longer the library takes. With WITH_FLINT defined, FLINT reduces the same matrices too. The list
- * programs of both are run as processes that write to /dev/null; their time is that of a line.
+ * Times the library's calls beside plain C that makes the same tests (plain.h), by turns in one run, and measures the
+ * stack that the two C calls use. A time is the least of many samples, each over prepared random inputs, in nanoseconds
+ * a call: whatever else the machine does only adds to it. A ratio is the library's time divided by the other's: above 1,
+ * the library takes longer.
+ *
+ *   plain    plain C through the same interface: a receiver goes in by value and comes back by value, as with the
+ *            library. It has one Take, which stands beside both of the library's
+ *   packed   Reduce and Receive at q = 2 beside an expert's C with rows as 16-bit words (packed.h)
+ *   FLINT    Reduce beside nmod_mat_rref, where WITH_FLINT is defined
+ *   a row    Take beside the library's own Receive of 64 rows, whose time is divided by 64: what a row costs there
+ *
+ * Before two are timed, their answers to the prepared inputs are compared. The list programs are run as processes that
+ * write to /dev/null; their time is that of a line.
  */
 #define _XOPEN_SOURCE 700
 
-#include "cases.h"
 #include "harness.h"
+#include "packed.h"
 #include "program.h"
 
+#include <inttypes.h>
+#include <string.h>
 #include <time.h>
 #include <ucontext.h>
 
@@ -17,47 +28,93 @@
 #include <flint/nmod_mat.h>
 #endif
 
-enum { INPUTS = 64, SAMPLES = 15, SAMPLE_NANOSECONDS = 1000000, SQUARE = MAX_LENGTH * MAX_LENGTH };
+enum { INPUTS = 64, SAMPLES = 60, SAMPLE_NANOSECONDS = 300000, ROWS_ROOM = PLAIN_ROWS * PLAIN_LENGTH };
+
+typedef struct {
+    uint64_t q, n, k;
+} setting;
+
+#define SETTING_FORMAT "%" PRIu64 ",%" PRIu64 ",%" PRIu64
+#define SETTING_VALUES(s) (s).q, (s).n, (s).k
+#define COUNT_OF(array) (sizeof(array) / sizeof *(array))
 
 /* ---- Prepared inputs ---- */
 
 static setting now;
 static uint64_t numbering, row_count;
 static uint64_t indexes[INPUTS];
-static uint8_t matrices[INPUTS][SQUARE], rows[INPUTS][ROWS_LIMIT], out[SQUARE], answer[9];
+static uint8_t matrices[INPUTS][PLAIN_ENTRIES], rows[INPUTS][ROWS_ROOM], out[PLAIN_ENTRIES], answer[PLAIN_ANSWER];
+static setting counted[INPUTS];
+
+/* The same receiver for both sides, and the row that it takes. */
+static harness_receiver receivers[INPUTS];
+static plain_receiver plain_receivers[INPUTS];
+static uint8_t taken[INPUTS][PLAIN_LENGTH];
 
 /* What the calls answer goes here, so that none is left out by the compiler. */
 static volatile uint64_t sink;
+static harness_step step;
+static plain_step other_step;
+
+static uint64_t random_state = UINT64_C(0x9E3779B97F4A7C15);
+
+static uint64_t random_next(void)
+{
+    random_state ^= random_state >> 12;
+    random_state ^= random_state << 25;
+    random_state ^= random_state >> 27;
+    return random_state * UINT64_C(0x2545F4914F6CDD1D);
+}
+
+static uint64_t random_below(uint64_t bound)
+{
+    return (random_next() >> 1) % bound;
+}
 
 static size_t width(void)
 {
     return (size_t)(now.k * now.n);
 }
 
+static size_t rows_length(void)
+{
+    return (size_t)(row_count * now.n);
+}
+
+static size_t square(void)
+{
+    return (size_t)(now.n * now.n);
+}
+
+/* A random linear combination of the matrix's rows. */
+static void mix(const uint8_t *matrix, uint8_t *row)
+{
+    memset(row, 0, (size_t)now.n);
+    for (uint64_t at = 0; at < now.k; at++) {
+        uint64_t factor = random_below(now.q);
+        for (uint64_t column = 0; column < now.n; column++)
+            row[column] = (uint8_t)((row[column] + factor * matrix[at * now.n + column]) % now.q);
+    }
+}
+
 /* Random linear combinations of the matrix that have its span. */
 static void mix_matrix(const uint8_t *matrix, uint8_t *mixed)
 {
-    uint8_t factors[MAX_LENGTH];
-    uint64_t dimension;
-    do {
-        for (uint64_t row = 0; row < row_count; row++) {
-            random_entries(now.q, factors, (size_t)now.k);
-            mix_rows(now.q, now.n, now.k, matrix, factors, mixed + row * now.n);
-        }
-        second_reduce(now.q, now.n, row_count, mixed, (size_t)(row_count * now.n), out, (size_t)(now.n * now.n),
-                      &dimension);
-    } while (dimension != now.k);
+    do
+        for (uint64_t row = 0; row < row_count; row++)
+            mix(matrix, mixed + row * now.n);
+    while (plain_reduce(now.q, now.n, row_count, mixed, rows_length(), out, square()).dimension != now.k);
 }
 
 static void prepare(setting s, uint64_t chosen, uint64_t mixed_rows)
 {
+    uint64_t count = plain_count(s.q, s.n, s.k).value;
     now = s;
     numbering = chosen;
     row_count = mixed_rows;
-    second_count(now.q, now.n, now.k, &now.count);
     for (unsigned input = 0; input < INPUTS; input++) {
-        indexes[input] = random_next() % now.count;
-        second_draw(now.q, now.n, now.k, numbering, indexes[input], matrices[input], width());
+        indexes[input] = random_next() % count;
+        plain_draw(now.q, now.n, now.k, numbering, indexes[input], matrices[input], width());
         if (row_count > 0)
             mix_matrix(matrices[input], rows[input]);
     }
@@ -65,56 +122,162 @@ static void prepare(setting s, uint64_t chosen, uint64_t mixed_rows)
 
 static void prepare_reduce(uint64_t q, uint64_t n)
 {
-    now = (setting){q, n, n, 1};
-    row_count = MAX_ROWS;
+    now = (setting){q, n, n};
+    row_count = PLAIN_ROWS;
     for (unsigned input = 0; input < INPUTS; input++)
-        random_entries(q, rows[input], (size_t)(row_count * n));
+        for (size_t place = 0; place < rows_length(); place++)
+            rows[input][place] = (uint8_t)random_below(q);
 }
 
-/* ---- Calls over all inputs ---- */
-
-static void draw_library(void)
+/* Receivers that have taken rows of the matrix until they have as many dimensions. */
+static void prepare_receiver(unsigned input, uint64_t dimension)
 {
-    for (unsigned input = 0; input < INPUTS; input++)
-        sink += pandrwyg_draw(now.q, now.n, now.k, numbering, indexes[input], out, width());
+    uint8_t row[PLAIN_LENGTH];
+    plain_receiver receiver = plain_start(now.q, now.n, now.k).receiver;
+    while (receiver.dimension < dimension) {
+        mix(matrices[input], row);
+        receiver = plain_take(receiver, row, (size_t)now.n).receiver;
+    }
+    plain_receivers[input] = receiver;
+    memcpy(&receivers[input], &receiver, sizeof receiver);
 }
 
-static void draw_second(void)
+/* Receivers of 0 to k dimensions by turns, and a further row for each: what a session of so many rows meets. */
+static void prepare_takes(setting s)
 {
-    for (unsigned input = 0; input < INPUTS; input++)
-        sink += second_draw(now.q, now.n, now.k, numbering, indexes[input], out, width());
-}
-
-static void number_library(void)
-{
-    for (unsigned input = 0; input < INPUTS; input++)
-        sink += harness_number(now.q, now.n, now.k, numbering, matrices[input], width()).value;
-}
-
-static void number_second(void)
-{
+    prepare(s, PLAIN_EXTENDED, PLAIN_ROWS);
     for (unsigned input = 0; input < INPUTS; input++) {
-        uint64_t index;
-        second_number(now.q, now.n, now.k, numbering, matrices[input], width(), &index);
-        sink += index;
+        prepare_receiver(input, input % (s.k + 1));
+        mix(matrices[input], taken[input]);
     }
 }
 
-static void reduce_library(void)
+static void prepare_closes(setting s, uint64_t chosen)
 {
+    prepare(s, chosen, 0);
     for (unsigned input = 0; input < INPUTS; input++)
-        sink += harness_reduce(now.q, now.n, row_count, rows[input], (size_t)(row_count * now.n), out,
-                               (size_t)(now.n * now.n)).dimension;
+        prepare_receiver(input, s.k);
 }
 
-static void reduce_second(void)
+static void prepare_counts(void)
 {
+    static const uint64_t sizes[] = {2, 3, 5, 7};
     for (unsigned input = 0; input < INPUTS; input++) {
-        uint64_t dimension;
-        second_reduce(now.q, now.n, row_count, rows[input], (size_t)(row_count * now.n), out,
-                      (size_t)(now.n * now.n), &dimension);
-        sink += dimension;
+        uint64_t n = 1 + random_below(PLAIN_LENGTH);
+        counted[input] = (setting){sizes[random_below(4)], n, random_below(n + 1)};
     }
+}
+
+/* ---- Calls: each takes an input, and answers a number to compare ---- */
+
+static uint64_t draw_library(unsigned input)
+{
+    return pandrwyg_draw(now.q, now.n, now.k, numbering, indexes[input], out, width()) + out[0];
+}
+
+static uint64_t draw_plain(unsigned input)
+{
+    return plain_draw(now.q, now.n, now.k, numbering, indexes[input], out, width()) + out[0];
+}
+
+static uint64_t number_library(unsigned input)
+{
+    return harness_number(now.q, now.n, now.k, numbering, matrices[input], width()).value;
+}
+
+static uint64_t number_plain(unsigned input)
+{
+    return plain_number(now.q, now.n, now.k, numbering, matrices[input], width()).value;
+}
+
+static uint64_t convert_library(unsigned input)
+{
+    return harness_convert(now.q, now.n, now.k, numbering, PLAIN_EXTENDED + PLAIN_FERRERS - numbering,
+                           indexes[input]).value;
+}
+
+static uint64_t convert_plain(unsigned input)
+{
+    return plain_convert(now.q, now.n, now.k, numbering, PLAIN_EXTENDED + PLAIN_FERRERS - numbering,
+                         indexes[input]).value;
+}
+
+static uint64_t count_library(unsigned input)
+{
+    return harness_count(counted[input].q, counted[input].n, counted[input].k).value;
+}
+
+static uint64_t count_plain(unsigned input)
+{
+    return plain_count(counted[input].q, counted[input].n, counted[input].k).value;
+}
+
+static uint64_t reduce_library(unsigned input)
+{
+    return harness_reduce(now.q, now.n, row_count, rows[input], rows_length(), out, square()).dimension;
+}
+
+static uint64_t reduce_plain(unsigned input)
+{
+    return plain_reduce(now.q, now.n, row_count, rows[input], rows_length(), out, square()).dimension;
+}
+
+static uint64_t reduce_packed(unsigned input)
+{
+    return packed_reduce(now.q, now.n, row_count, rows[input], rows_length(), out, square()).dimension;
+}
+
+static uint64_t received(uint32_t refusal)
+{
+    uint64_t index;
+    memcpy(&index, answer, sizeof index);
+    return index + refusal + answer[8];
+}
+
+static uint64_t receive_library(unsigned input)
+{
+    return received(pandrwyg_receive(now.q, now.n, now.k, numbering, row_count, rows[input], rows_length(), answer,
+                                     sizeof answer));
+}
+
+static uint64_t receive_plain(unsigned input)
+{
+    return received(plain_receive(now.q, now.n, now.k, numbering, row_count, rows[input], rows_length(), answer,
+                                  sizeof answer));
+}
+
+static uint64_t receive_packed(unsigned input)
+{
+    return received(packed_receive(now.q, now.n, now.k, numbering, row_count, rows[input], rows_length(), answer,
+                                   sizeof answer));
+}
+
+static uint64_t take_library(unsigned input)
+{
+    step = harness_take(receivers[input], taken[input], (size_t)now.n);
+    return step.raised + step.receiver.dimension;
+}
+
+static uint64_t lent_library(unsigned input)
+{
+    step = harness_take_lent(receivers[input], taken[input], (size_t)now.n);
+    return step.raised + step.receiver.dimension;
+}
+
+static uint64_t take_plain(unsigned input)
+{
+    other_step = plain_take(plain_receivers[input], taken[input], (size_t)now.n);
+    return other_step.raised + other_step.receiver.dimension;
+}
+
+static uint64_t close_library(unsigned input)
+{
+    return harness_close(receivers[input], numbering).value;
+}
+
+static uint64_t close_plain(unsigned input)
+{
+    return plain_close(plain_receivers[input], numbering).value;
 }
 
 #ifdef WITH_FLINT
@@ -137,32 +300,13 @@ static void clear_flint(void)
     nmod_mat_clear(flint_work);
 }
 
-/* FLINT reduces in place, so that each matrix is copied first, as the other two copy their input. */
-static void reduce_flint(void)
+/* FLINT reduces in place, so that each matrix is copied first. */
+static uint64_t reduce_flint(unsigned input)
 {
-    for (unsigned input = 0; input < INPUTS; input++) {
-        nmod_mat_set(flint_work, flint_matrices[input]);
-        sink += (uint64_t)nmod_mat_rref(flint_work);
-    }
+    nmod_mat_set(flint_work, flint_matrices[input]);
+    return (uint64_t)nmod_mat_rref(flint_work);
 }
 #endif
-
-static void receive_library(void)
-{
-    for (unsigned input = 0; input < INPUTS; input++)
-        sink += pandrwyg_receive(now.q, now.n, now.k, numbering, row_count, rows[input],
-                                 (size_t)(row_count * now.n), answer, sizeof answer);
-}
-
-static void receive_second(void)
-{
-    for (unsigned input = 0; input < INPUTS; input++) {
-        uint64_t index, dimension;
-        second_receive(now.q, now.n, now.k, numbering, row_count, rows[input], (size_t)(row_count * now.n),
-                       &index, &dimension);
-        sink += index;
-    }
-}
 
 /* ---- The list programs ---- */
 
@@ -193,28 +337,34 @@ static off_t listing_length(const char *program)
 }
 
 /* Writes the settings line; both programs must list, and to the same length. */
-static void prepare_list(const setting *s)
+static void prepare_list(setting s, uint64_t count)
 {
     off_t start = lseek(line_end, 0, SEEK_SET);
     int length = dprintf(line_end, SETTING_FORMAT "\n", SETTING_VALUES(s));
     if (start != 0 || ftruncate(line_end, length) != 0)
         program_trouble("the settings line");
     off_t listed = listing_length(library_list);
-    if (listed < (off_t)s->count || listed != listing_length(other_list))
+    if (listed < (off_t)count || listed != listing_length(other_list))
         program_trouble("other listings");
 }
 
-static void list_library(void)
+static uint64_t list_library(unsigned input)
 {
+    (void)input;
     list(library_list);
+    return 0;
 }
 
-static void list_second(void)
+static uint64_t list_plain(unsigned input)
 {
+    (void)input;
     list(other_list);
+    return 0;
 }
 
 /* ---- Time ---- */
+
+typedef uint64_t timed_call(unsigned input);
 
 static double nanoseconds(void)
 {
@@ -223,51 +373,130 @@ static double nanoseconds(void)
     return (double)time.tv_sec * 1e9 + (double)time.tv_nsec;
 }
 
-static double sample(void (*calls)(void), uint64_t repeats)
+/* The time of so many rounds over the inputs. */
+static double sample(timed_call *call, unsigned inputs, uint64_t rounds)
 {
     double start = nanoseconds();
-    for (uint64_t repeat = 0; repeat < repeats; repeat++)
-        calls();
+    for (uint64_t round = 0; round < rounds; round++)
+        for (unsigned input = 0; input < inputs; input++)
+            sink += call(input);
     return nanoseconds() - start;
 }
 
-/* Warms up, and answers how many repeats make a sample long enough. */
-static uint64_t calibrate(void (*calls)(void))
+static double lesser(double one, double two)
 {
-    uint64_t repeats = 1;
-    while (sample(calls, repeats) < SAMPLE_NANOSECONDS)
-        repeats *= 2;
-    return repeats;
+    return one < two ? one : two;
 }
 
-static int compare_times(const void *first, const void *second)
+/* Warms up, and answers how many rounds make a sample long enough. */
+static uint64_t calibrate(timed_call *call, unsigned inputs)
 {
-    double one = *(const double *)first, two = *(const double *)second;
-    return (one > two) - (one < two);
+    uint64_t rounds = 1;
+    while (sample(call, inputs, rounds) < SAMPLE_NANOSECONDS)
+        rounds *= 2;
+    return rounds;
 }
 
-static double median(double *times)
+/* The worst ratio of each call, and at which line. */
+static struct {
+    const char *call;
+    char line[64];
+    double ratio;
+} worst[20];
+
+static void note_worst(const char *call, const char *line, double ratio)
 {
-    qsort(times, SAMPLES, sizeof *times, compare_times);
-    return times[SAMPLES / 2];
+    unsigned place = 0;
+    while (place + 1 < COUNT_OF(worst) && worst[place].call != NULL && strcmp(worst[place].call, call) != 0)
+        place++;
+    if (ratio <= worst[place].ratio)
+        return;
+    worst[place].call = call;
+    worst[place].ratio = ratio;
+    snprintf(worst[place].line, sizeof worst[place].line, "%s", line);
 }
 
-/* Both sides by turns, a run being so many calls or lines; prints one line. */
-static void compare_runs(const char *name, uint64_t units, void (*library)(void), void (*other)(void))
+static void report(const char *kind, const char *name, double library_time, double other_time)
 {
-    double library_times[SAMPLES], other_times[SAMPLES];
-    uint64_t library_repeats = calibrate(library), other_repeats = calibrate(other);
-    for (unsigned place = 0; place < SAMPLES; place++) {
-        library_times[place] = sample(library, library_repeats) / (double)(library_repeats * units);
-        other_times[place] = sample(other, other_repeats) / (double)(other_repeats * units);
-    }
-    double library_time = median(library_times), other_time = median(other_times);
     printf("%-44s %12.1f %12.1f %9.2f\n", name, library_time, other_time, library_time / other_time);
+    note_worst(kind, name, library_time / other_time);
 }
 
-static void compare(const char *name, void (*library)(void), void (*other)(void))
+/* Times two calls by turns. */
+static void measure(timed_call *first, timed_call *second, unsigned inputs, double times[2])
 {
-    compare_runs(name, INPUTS, library, other);
+    uint64_t first_rounds = calibrate(first, inputs), second_rounds = calibrate(second, inputs);
+    times[0] = times[1] = 1e18;
+    for (unsigned turn = 0; turn < SAMPLES; turn++) {
+        times[0] = lesser(times[0], sample(first, inputs, first_rounds) / (double)(first_rounds * inputs));
+        times[1] = lesser(times[1], sample(second, inputs, second_rounds) / (double)(second_rounds * inputs));
+    }
+}
+
+/* Compares the answers, then the times of calls of so many units each. */
+static void compare_units(const char *kind, const char *name, unsigned inputs, uint64_t units, timed_call *library,
+                          timed_call *other)
+{
+    double times[2];
+    for (unsigned input = 0; input < inputs; input++)
+        if (library(input) != other(input))
+            program_trouble(name);
+    measure(library, other, inputs, times);
+    report(kind, name, times[0] / (double)units, times[1] / (double)units);
+}
+
+/* The calls of one kind, at the settings and numbering of now. */
+static void compare(const char *kind, const char *call, timed_call *library, timed_call *other)
+{
+    char name[64];
+    snprintf(name, sizeof name, "%s " SETTING_FORMAT " %s", call, SETTING_VALUES(now),
+             numbering == PLAIN_EXTENDED ? "extended" : "Ferrers");
+    compare_units(kind, name, INPUTS, 1, library, other);
+}
+
+static void compare_receive(setting s, uint64_t chosen, uint64_t mixed_rows)
+{
+    char call[32];
+    bool few = mixed_rows == s.k;
+    prepare(s, chosen, mixed_rows);
+    snprintf(call, sizeof call, "receive %" PRIu64 " rows", mixed_rows);
+    compare(few ? "receive k rows" : "receive 64 rows", call, receive_library, receive_plain);
+    if (s.q == 2)
+        compare(few ? "receive k, packed" : "receive 64, packed", few ? "  packed, k rows" : "  packed, 64 rows",
+                receive_library, receive_packed);
+}
+
+/* The calls that take a numbering. */
+static void compare_numbering(setting s, uint64_t chosen)
+{
+    prepare(s, chosen, 0);
+    compare("draw", "draw", draw_library, draw_plain);
+    compare("number", "number", number_library, number_plain);
+    compare("convert", "convert from", convert_library, convert_plain);
+    compare_receive(s, chosen, s.k);
+    compare_receive(s, chosen, PLAIN_ROWS);
+    prepare_closes(s, chosen);
+    compare("close", "close", close_library, close_plain);
+}
+
+static void compare_take(setting s, const char *form, timed_call *library)
+{
+    char name[64];
+    double times[2];
+    prepare_takes(s);
+    snprintf(name, sizeof name, "%s " SETTING_FORMAT, form, SETTING_VALUES(s));
+    compare_units(form, name, INPUTS, 1, library, take_plain);
+    measure(library, receive_library, INPUTS, times);
+    snprintf(name, sizeof name, "  a row of receive " SETTING_FORMAT, SETTING_VALUES(s));
+    report("take, a row of receive", name, times[0], times[1] / PLAIN_ROWS);
+}
+
+static void compare_setting(setting s)
+{
+    compare_numbering(s, PLAIN_EXTENDED);
+    compare_numbering(s, PLAIN_FERRERS);
+    compare_take(s, "take by value", take_library);
+    compare_take(s, "take lent", lent_library);
 }
 
 static void compare_reduce(uint64_t q, uint64_t n)
@@ -275,68 +504,61 @@ static void compare_reduce(uint64_t q, uint64_t n)
     char name[64];
     prepare_reduce(q, n);
     snprintf(name, sizeof name, "reduce 64 rows q=%" PRIu64 " n=%" PRIu64, q, n);
-    compare(name, reduce_library, reduce_second);
+    compare_units("reduce", name, INPUTS, 1, reduce_library, reduce_plain);
+    snprintf(name, sizeof name, "  packed q=%" PRIu64 " n=%" PRIu64, q, n);
+    if (q == 2)
+        compare_units("reduce, packed", name, INPUTS, 1, reduce_library, reduce_packed);
 #ifdef WITH_FLINT
     prepare_flint();
-    snprintf(name, sizeof name, "the same, beside FLINT");
-    compare(name, reduce_library, reduce_flint);
+    compare_units("reduce, FLINT", "  FLINT", INPUTS, 1, reduce_library, reduce_flint);
     clear_flint();
 #endif
 }
 
-static void compare_setting(setting s, uint64_t chosen)
+static void compare_reduces(void)
 {
-    char name[64];
-    const char *order = chosen == EXTENDED ? "extended" : "Ferrers";
-    prepare(s, chosen, 0);
-    snprintf(name, sizeof name, "draw " SETTING_FORMAT " %s", SETTING_VALUES(&s), order);
-    compare(name, draw_library, draw_second);
-    snprintf(name, sizeof name, "number " SETTING_FORMAT " %s", SETTING_VALUES(&s), order);
-    compare(name, number_library, number_second);
-    prepare(s, chosen, s.k);
-    snprintf(name, sizeof name, "receive %" PRIu64 " rows " SETTING_FORMAT " %s", s.k, SETTING_VALUES(&s), order);
-    compare(name, receive_library, receive_second);
-    prepare(s, chosen, MAX_ROWS);
-    snprintf(name, sizeof name, "receive 64 rows " SETTING_FORMAT " %s", SETTING_VALUES(&s), order);
-    compare(name, receive_library, receive_second);
+    static const uint64_t sizes[] = {2, 3, 5, 7};
+    for (unsigned place = 0; place < COUNT_OF(sizes); place++)
+        for (uint64_t n = 1; n <= PLAIN_LENGTH; n++)
+            compare_reduce(sizes[place], n);
 }
 
-static void compare_list(setting s, int out)
+static void compare_list(setting s, int null)
 {
     char name[64];
-    second_count(s.q, s.n, s.k, &s.count);
-    prepare_list(&s);
-    listing_end = out;
-    snprintf(name, sizeof name, "list " SETTING_FORMAT ", a line of %" PRIu64, SETTING_VALUES(&s), s.count);
-    compare_runs(name, s.count, list_library, list_second);
+    uint64_t count = plain_count(s.q, s.n, s.k).value;
+    prepare_list(s, count);
+    listing_end = null;
+    snprintf(name, sizeof name, "list " SETTING_FORMAT ", a line of %" PRIu64, SETTING_VALUES(s), count);
+    compare_units("list", name, 1, count, list_library, list_plain);
 }
 
 static void compare_lists(void)
 {
     FILE *line = tmpfile();
-    int out = open("/dev/null", O_WRONLY);
-    if (line == NULL || out == NO_END)
+    int null = open("/dev/null", O_WRONLY);
+    if (line == NULL || null == NO_END)
         program_trouble("the ends of the list programs");
     line_end = fileno(line);
-    compare_list((setting){2, 16, 15, 0}, out);
-    compare_list((setting){2, 16, 1, 0}, out);
-    close(out);
+    compare_list((setting){2, 16, 15}, null);
+    compare_list((setting){2, 16, 1}, null);
+    close(null);
     fclose(line);
 }
 
-static void compare_times_of_all(void)
+static void compare_all(void)
 {
-    static const setting chosen[] = {
-        {2, 6, 3, 0}, {2, 16, 6, 0}, {2, 16, 10, 0}, {3, 12, 5, 0}, {5, 10, 4, 0}, {7, 9, 4, 0},
-    };
+    static const setting chosen[] = {{2, 6, 3}, {2, 16, 6}, {2, 16, 10}, {3, 12, 5}, {5, 10, 4}, {7, 9, 4}};
     printf("%-44s %12s %12s %9s\n", "call", "library ns", "other ns", "ratio");
-    for (unsigned place = 0; place < sizeof chosen / sizeof *chosen; place++) {
-        compare_setting(chosen[place], EXTENDED);
-        compare_setting(chosen[place], FERRERS);
-    }
-    compare_reduce(2, 16);
-    compare_reduce(7, 8);
+    prepare_counts();
+    compare_units("count", "count, 64 settings", INPUTS, 1, count_library, count_plain);
+    for (unsigned place = 0; place < COUNT_OF(chosen); place++)
+        compare_setting(chosen[place]);
+    compare_reduces();
     compare_lists();
+    printf("\nthe highest ratio of each call:\n");
+    for (unsigned place = 0; place < COUNT_OF(worst) && worst[place].call != NULL; place++)
+        printf("  %-24s %6.2f  %s\n", worst[place].call, worst[place].ratio, worst[place].line);
 }
 
 /* ---- Stack ---- */
@@ -352,13 +574,12 @@ static void call_nothing(void)
 
 static void call_draw(void)
 {
-    sink += pandrwyg_draw(now.q, now.n, now.k, numbering, indexes[0], out, width());
+    sink += draw_library(0);
 }
 
 static void call_receive(void)
 {
-    sink += pandrwyg_receive(now.q, now.n, now.k, numbering, row_count, rows[0], (size_t)(row_count * now.n),
-                             answer, sizeof answer);
+    sink += receive_library(0);
 }
 
 /* Runs a call on a painted stack and answers how many bytes, from the top to the deepest written, it reached. */
@@ -380,11 +601,12 @@ static size_t stack_reach(void (*call)(void))
 /* The most that a call uses over all accepted settings, without what an empty call uses. */
 static size_t stack_use(void (*call)(void))
 {
-    setting settings[SETTING_LIMIT];
-    size_t count = accepted_settings(settings, UINT64_MAX), most = 0;
-    size_t empty = stack_reach(call_nothing);
-    for (size_t place = 0; place < 2 * count; place++) {
-        prepare(settings[place / 2], 1 + place % 2, MAX_ROWS);
+    size_t most = 0, empty = stack_reach(call_nothing);
+    for (unsigned code = 0; code < 8 * 17 * 17 * 2; code++) {
+        setting s = {code % 8, code / 8 % 17, code / 8 / 17 % 17};
+        if (plain_count(s.q, s.n, s.k).refusal != PLAIN_DONE)
+            continue;
+        prepare(s, 1 + code / 8 / 17 / 17, PLAIN_ROWS);
         call();
         size_t reach = stack_reach(call);
         most = reach > most ? reach : most;
@@ -394,8 +616,8 @@ static size_t stack_use(void (*call)(void))
 
 int main(void)
 {
-    second_init();
-    compare_times_of_all();
+    plain_init();
+    compare_all();
     stack = malloc(STACK_LENGTH);
     if (stack == NULL)
         return 1;

@@ -1,9 +1,10 @@
 /*
- * Tests what the header's wrappers make of null pointers and of lengths that no buffer has: the library refuses in its
- * own order, no other memory is touched, and an empty buffer may be null.
+ * Tests the header's numbers, and what its wrappers make of null pointers and of lengths that no buffer has: the
+ * library refuses in its own order, no other memory is touched, and an empty buffer may be null.
  */
 #include "check.h"
 #include "pandrwyg.h"
+#include "refusals.h"
 
 #include <inttypes.h>
 #include <string.h>
@@ -19,13 +20,13 @@ typedef struct {
 static const size_t no_lengths[] = {1, MATRIX, 257, 1025, PTRDIFF_MAX, (size_t)PTRDIFF_MAX + 1, SIZE_MAX - 1, SIZE_MAX};
 
 static const request draws[] = {
-    {4, 6, 3, 1, 0, PANDRWYG_FIELD_SIZE}, {2, 0, 0, 1, 0, PANDRWYG_SHAPE},    {2, 16, 8, 1, 0, PANDRWYG_COUNT},
-    {2, 6, 3, 3, 0, PANDRWYG_NUMBERING},  {2, 6, 3, 1, 0, PANDRWYG_LENGTH},   {2, 6, 3, 2, 1395, PANDRWYG_LENGTH},
+    {4, 6, 3, 1, 0, REFUSED_FIELD}, {2, 0, 0, 1, 0, REFUSED_SHAPE}, {2, 16, 8, 1, 0, REFUSED_COUNT},
+    {2, 6, 3, 3, 0, REFUSED_NUMBERING}, {2, 6, 3, 1, 0, REFUSED_LENGTH}, {2, 6, 3, 2, 1395, REFUSED_LENGTH},
 };
 
 static const request receptions[] = {
-    {4, 6, 3, 1, 3, PANDRWYG_FIELD_SIZE}, {2, 0, 0, 1, 3, PANDRWYG_SHAPE},      {2, 16, 8, 1, 3, PANDRWYG_COUNT},
-    {2, 6, 3, 0, 3, PANDRWYG_NUMBERING},  {2, 6, 3, 1, 65, PANDRWYG_ROW_COUNT}, {2, 6, 3, 2, 3, PANDRWYG_LENGTH},
+    {4, 6, 3, 1, 3, REFUSED_FIELD}, {2, 0, 0, 1, 3, REFUSED_SHAPE}, {2, 16, 8, 1, 3, REFUSED_COUNT},
+    {2, 6, 3, 0, 3, REFUSED_NUMBERING}, {2, 6, 3, 1, 65, REFUSED_ROW_COUNT}, {2, 6, 3, 2, 3, REFUSED_LENGTH},
 };
 
 static void draw_null_group(void)
@@ -38,8 +39,8 @@ static void draw_null_group(void)
             check(refusal == r->refusal, "request %zu, length %zu: %" PRIu32, place, no_lengths[size], refusal);
         }
     check(pandrwyg_draw(2, 6, 0, 1, 0, NULL, 0) == 0, "the empty matrix");
-    check(pandrwyg_draw(2, 6, 0, 1, 1, NULL, 0) == PANDRWYG_INDEX, "no second empty matrix");
-    check(pandrwyg_draw(2, 6, 3, 1, 0, NULL, 0) == PANDRWYG_LENGTH, "no room for a matrix");
+    check(pandrwyg_draw(2, 6, 0, 1, 1, NULL, 0) == REFUSED_INDEX, "no second empty matrix");
+    check(pandrwyg_draw(2, 6, 3, 1, 0, NULL, 0) == REFUSED_LENGTH, "no room for a matrix");
     check_group_end();
 }
 
@@ -74,14 +75,30 @@ static void receive_null_group(void)
             refusal = pandrwyg_receive(r->q, r->n, r->k, r->numbering, r->last, rows, sizeof rows, NULL, no_lengths[size]);
             check(refusal == r->refusal, "request %zu, no answer of length %zu: %" PRIu32, place, no_lengths[size], refusal);
         }
-    check(pandrwyg_receive(2, 6, 3, 1, 3, rows, sizeof rows, NULL, 0) == PANDRWYG_LENGTH, "no room for an answer");
+    check(pandrwyg_receive(2, 6, 3, 1, 3, rows, sizeof rows, NULL, 0) == REFUSED_LENGTH, "no room for an answer");
     check(pandrwyg_receive(2, 6, 0, 1, 0, NULL, 0, answer, sizeof answer) == 0, "no rows span the empty matrix");
     check(answer[0] == 0 && answer[8] == 0, "its index and dimension are 0");
     check_group_end();
 }
 
+static void numbers_group(void)
+{
+    static const uint32_t numbers[][2] = {
+        {PANDRWYG_FIELD_SIZE, REFUSED_FIELD}, {PANDRWYG_SHAPE, REFUSED_SHAPE}, {PANDRWYG_COUNT, REFUSED_COUNT},
+        {PANDRWYG_LENGTH, REFUSED_LENGTH}, {PANDRWYG_INDEX, REFUSED_INDEX}, {PANDRWYG_ENTRY, REFUSED_ENTRY},
+        {PANDRWYG_TOO_FEW, REFUSED_TOO_FEW}, {PANDRWYG_TOO_MANY, REFUSED_TOO_MANY},
+        {PANDRWYG_NUMBERING, REFUSED_NUMBERING}, {PANDRWYG_ROW_COUNT, REFUSED_ROW_COUNT},
+    };
+    check_group_begin("the header's refusal numbers");
+    for (size_t place = 0; place < sizeof numbers / sizeof *numbers; place++)
+        check(numbers[place][0] == numbers[place][1], "%" PRIu32 " instead of %" PRIu32, numbers[place][0],
+              numbers[place][1]);
+    check_group_end();
+}
+
 int main(void)
 {
+    numbers_group();
     draw_null_group();
     draw_length_group();
     receive_null_group();

@@ -1,6 +1,6 @@
 /*
  * What the test programs share: a fixed-seed xorshift generator, the accepted settings, matrices written as text,
- * document 01's figures, and lent buffers with a known filling.
+ * the papers' figures, and lent buffers with a known filling.
  */
 #ifndef CASES_H
 #define CASES_H
@@ -9,7 +9,10 @@
 
 #include <inttypes.h>
 #include <stdbool.h>
+#include <stdlib.h>
 #include <string.h>
+
+#define COUNT_OF(array) (sizeof(array) / sizeof *(array))
 
 /* A byte that no entry, count or dimension of an accepted call has. */
 enum { FILLING = 0xA5, MARGIN = 32, ROWS_LIMIT = MAX_ROWS * MAX_LENGTH, SETTING_LIMIT = 1088 };
@@ -68,6 +71,38 @@ static inline size_t accepted_settings(setting *list, uint64_t limit)
     return found;
 }
 
+static const uint64_t numberings[] = {EXTENDED, FERRERS};
+
+/* All accepted settings. */
+static setting settings[SETTING_LIMIT];
+static size_t setting_count;
+
+/* How many times less than the whole is run. */
+static size_t thinning = 1;
+
+/* Fills the tables and lists the settings. A test's argument N asks for about the N-th part, for slow checkers. */
+static inline void cases_begin(int argument_count, char **arguments)
+{
+    if (argument_count > 1 && atoi(arguments[1]) > 0)
+        thinning = (size_t)atoi(arguments[1]);
+    second_init();
+    setting_count = accepted_settings(settings, UINT64_MAX);
+}
+
+/* The bytes of a matrix. */
+static inline size_t width_of(const setting *s)
+{
+    return (size_t)(s->k * s->n);
+}
+
+/* Calls with every n and k up to 18, accepted and refused. */
+static inline void every_shape(uint64_t q, void (*call)(uint64_t q, uint64_t n, uint64_t k))
+{
+    for (uint64_t n = 0; n <= 18; n++)
+        for (uint64_t k = 0; k <= 18; k++)
+            call(q, n, k);
+}
+
 #define SETTING_FORMAT "%" PRIu64 ",%" PRIu64 ",%" PRIu64
 #define SETTING_VALUES(s) (s)->q, (s)->n, (s)->k
 
@@ -83,25 +118,72 @@ static inline size_t read_rows(const char *text, uint8_t *entries)
     return length;
 }
 
+/* Any reduced matrix: k columns out of n for the pivots, and anything at the dots. */
+static inline void random_reduced(const setting *s, uint8_t *matrix)
+{
+    uint64_t row = 0;
+    memset(matrix, 0, width_of(s));
+    for (uint64_t column = 0; column < s->n; column++) {
+        if (random_below(s->n - column) < s->k - row)
+            matrix[row++ * s->n + column] = 1;
+        else
+            for (uint64_t above = 0; above < row; above++)
+                matrix[above * s->n + column] = (uint8_t)random_below(s->q);
+    }
+}
+
 /* Compares a matrix with its extended and its Ferrers index. */
 typedef void figure_comparison(uint64_t q, uint64_t n, uint64_t k, const char *rows, uint64_t extended,
                                uint64_t ferrers);
 
-/* The matrices of document 01's examples of Draw, Number and Convert. */
+/* The matrices of document 01's examples of Draw, Number and Convert, and of document 001's Example 1. */
 static inline void compare_figures(figure_comparison *compare)
 {
-    compare(2, 6, 3, "011001/000100/000011", 928, 1323);
-    compare(2, 6, 3, "000100/000010/000001", 1394, 1394);
-    compare(2, 3, 1, "100", 0, 0);
-    compare(2, 3, 1, "110", 1, 1);
-    compare(2, 3, 1, "010", 2, 4);
-    compare(2, 3, 1, "101", 3, 2);
-    compare(2, 3, 1, "111", 4, 3);
-    compare(2, 3, 1, "011", 5, 5);
-    compare(2, 3, 1, "001", 6, 6);
-    compare(2, 3, 0, "", 0, 0);
-    compare(3, 2, 1, "12", 2, 2);
-    compare(2, 3, 2, "101/011", 3, 3);
+    static const struct {
+        uint64_t q, n, k;
+        const char *rows;
+        uint64_t extended, ferrers;
+    } figures[] = {
+        {2, 6, 3, "011001/000100/000011", 928, 1323}, {2, 6, 3, "000100/000010/000001", 1394, 1394},
+        {2, 3, 1, "100", 0, 0}, {2, 3, 1, "110", 1, 1}, {2, 3, 1, "010", 2, 4}, {2, 3, 1, "101", 3, 2},
+        {2, 3, 1, "111", 4, 3}, {2, 3, 1, "011", 5, 5}, {2, 3, 1, "001", 6, 6}, {2, 3, 0, "", 0, 0},
+        {3, 2, 1, "12", 2, 2}, {2, 3, 2, "101/011", 3, 3}, {2, 7, 3, "1000110/0010101/0001011", 5062, 6620},
+    };
+    for (size_t place = 0; place < COUNT_OF(figures); place++)
+        compare(figures[place].q, figures[place].n, figures[place].k, figures[place].rows, figures[place].extended,
+                figures[place].ferrers);
+}
+
+/* Compares two matrices of which the first comes first in the numbering. */
+typedef void order_comparison(uint64_t q, uint64_t n, uint64_t k, uint64_t numbering, const char *first,
+                              const char *second);
+
+/* Example 3 of document 001, Y < X < Z; and matrices of our own in the Ferrers order. */
+static inline void compare_orders(order_comparison *compare)
+{
+    static const char *const x = "100010/010000/001100", *const y = "100000/011000/000100",
+                      *const z = "100000/010000/000010";
+    static const struct {
+        uint64_t q, n, k;
+        const char *first, *second;
+    } ferrers[] = {
+        /* Larger size first, whatever the entries are. */
+        {2, 4, 2, "1011/0111", "1000/0010"}, {3, 4, 2, "1202/0012", "0100/0010"}, {2, 3, 1, "011", "001"},
+        /* At equal size more dots first: 2,0 before 1,1; 3,2,0 before 3,1,1 before 2,2,1. */
+        {2, 4, 2, "0101/0011", "1000/0001"}, {2, 6, 3, "010101/001101/000011", "100000/000100/000010"},
+        {2, 6, 3, "100000/000100/000010", "100000/001000/000001"},
+        {5, 6, 3, "010404/001404/000014", "100000/000100/000010"},
+        /* 3,1,1,1 before 2,2,2,0. */
+        {2, 7, 3, "1000000/0000100/0000010", "0100010/0010000/0000001"},
+        /* At equal diagrams the smaller tableau first: right column first, top entry first. */
+        {3, 4, 2, "1020/0120", "1000/0101"}, {3, 4, 2, "1002/0120", "1022/0100"}, {3, 4, 2, "1000/0110", "1010/0100"},
+    };
+    compare(2, 6, 3, EXTENDED, y, x);
+    compare(2, 6, 3, EXTENDED, x, z);
+    compare(2, 6, 3, EXTENDED, y, z);
+    for (size_t place = 0; place < COUNT_OF(ferrers); place++)
+        compare(ferrers[place].q, ferrers[place].n, ferrers[place].k, FERRERS, ferrers[place].first,
+                ferrers[place].second);
 }
 
 /* Steps entries like an odometer, each up to the most; false when all have been seen, and they are zeros again. */

@@ -31,7 +31,7 @@ static void table_edges_group(void)
 {
     static const uint64_t outside[] = {1156, 1157, 65536, UINT64_C(1) << 32, UINT64_MAX - 1, UINT64_MAX};
     check_group_begin("table, places outside");
-    for (size_t place = 0; place < sizeof outside / sizeof *outside; place++)
+    for (size_t place = 0; place < COUNT_OF(outside); place++)
         check(harness_table_entry(outside[place]) == 0, "place %" PRIu64 " isn't 0", outside[place]);
     check_group_end();
 }
@@ -54,9 +54,7 @@ static void table_shape_group(unsigned field)
 static void small_group(uint64_t q)
 {
     check_group_begin("count, q = %" PRIu64, q);
-    for (uint64_t n = 0; n <= 18; n++)
-        for (uint64_t k = 0; k <= 18; k++)
-            compare_count(q, n, k);
+    every_shape(q, compare_count);
     check_group_end();
 }
 
@@ -65,7 +63,7 @@ static const uint64_t unusual[] = {
     0, 1, 2, 3, 17, 255, 256, 257, 258, 259, 65536, 65538, UINT64_C(1) << 32, (UINT64_C(1) << 32) + 2,
     (UINT64_C(1) << 63) + 2, UINT64_MAX - 1, UINT64_MAX,
 };
-enum { UNUSUAL_COUNT = sizeof unusual / sizeof *unusual };
+enum { UNUSUAL_COUNT = COUNT_OF(unusual) };
 
 static void unusual_group(uint64_t q)
 {
@@ -95,7 +93,7 @@ static void figures_group(void)
         {2, 0, 0, 0, REFUSED_SHAPE},
     };
     check_group_begin("figures of document 01");
-    for (size_t place = 0; place < sizeof figures / sizeof *figures; place++) {
+    for (size_t place = 0; place < COUNT_OF(figures); place++) {
         harness_answer answer = harness_count(figures[place].q, figures[place].n, figures[place].k);
         check(answer.refusal == figures[place].refusal && answer.value == figures[place].count, "figure %zu", place);
     }

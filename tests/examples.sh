@@ -73,7 +73,7 @@ same 'docs/C.md quotes Draw' "$(block Draw 1)" "$(cat examples/draw_ten_lines.c)
 same 'docs/C.md tells what Draw prints' "0: $(block Draw 2)" "$(answer "$programs/draw_ten_lines")"
 same 'docs/C.md quotes Receive' "$(block Receive 1)" "$(cat examples/receive_ten_lines.c)"
 same 'docs/C.md tells what Receive prints' "0: $(block Receive 2)" "$(answer "$programs/receive_ten_lines")"
-for refusal in 0 1 2 3 4 5 6 7 8 9 10 11 12 13 14 15; do
+for refusal in $(sed -n 's/^    [A-Z_]* = \([0-9]*\),.*/\1/p' tests/refusals.h); do
     same "docs/C.md has refusal $refusal" "$(grep -c "^| $refusal |" docs/C.md)" 1
 done
 

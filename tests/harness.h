@@ -38,6 +38,10 @@ harness_answer harness_convert(uint64_t q, uint64_t n, uint64_t k, uint64_t from
 harness_answer harness_reduce(uint64_t q, uint64_t n, uint64_t row_count, const uint8_t *rows, size_t rows_length,
                               uint8_t *out, size_t out_length);
 
+/* Receive by value. Done, the value is the index and the dimension 0; with 8 and 9 the dimension is the span's. */
+harness_answer harness_receive(uint64_t q, uint64_t n, uint64_t k, uint64_t numbering, uint64_t row_count,
+                               const uint8_t *rows, size_t rows_length);
+
 harness_step harness_start(uint64_t q, uint64_t n, uint64_t k);
 
 /* Take by value, and Take on a lent receiver, which is then handed back. */

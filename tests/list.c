@@ -1,7 +1,7 @@
 /*
  * Tests the list program as a child process: what it writes for an input is compared byte by byte with the second
- * implementation's text, of both makes. Every setting, listed or refused; every input that is one byte away from a
- * line; other inputs that are no line; long inputs; and ends of pipes that are closed or fail.
+ * implementation's text. Every setting, listed or refused; every input that is one byte away from a line; other inputs
+ * that are no line; long inputs; and ends of pipes that are closed or fail.
  *
  * The argument is the program, `target/bin/list` if there is none.
  */
@@ -127,23 +127,23 @@ static void compare_text(const uint8_t *input, size_t length, const char *text, 
 }
 
 /* The second implementation's text; the caller frees it. */
-static char *expected(const uint8_t *input, size_t length, uint32_t make, size_t *text_length)
+static char *expected(const uint8_t *input, size_t length, size_t *text_length)
 {
     char *text = NULL;
     FILE *out = open_memstream(&text, text_length);
     if (out == NULL)
         program_trouble("open_memstream");
-    second_list(input, length, make, out);
+    second_list(input, length, out);
     if (fclose(out) != 0)
         program_trouble("fclose");
     return text;
 }
 
 /* The output is the second implementation's. */
-static void compare_output(const uint8_t *input, size_t length, uint32_t make)
+static void compare_output(const uint8_t *input, size_t length)
 {
     size_t text_length;
-    char *text = expected(input, length, make, &text_length);
+    char *text = expected(input, length, &text_length);
     compare_text(input, length, text, text_length);
     free(text);
 }
@@ -151,8 +151,7 @@ static void compare_output(const uint8_t *input, size_t length, uint32_t make)
 static void compare(const uint8_t *input, size_t length)
 {
     run(input, length);
-    compare_output(input, length, BY_FORMULAS);
-    compare_output(input, length, BY_ORDERS);
+    compare_output(input, length);
 }
 
 /* The program and the second implementation both give this text. */
@@ -193,7 +192,7 @@ static void figures_group(void)
         {"2,3,1", "refused,11\n"}, {"4,17,18", "refused,11\n"}, {"2,16,7\n\n", "refused,11\n"},
     };
     check_group_begin("document 01's figures");
-    for (unsigned place = 0; place < sizeof figures / sizeof *figures; place++)
+    for (unsigned place = 0; place < COUNT_OF(figures); place++)
         compare_literal(figures[place][0], strlen(figures[place][0]), figures[place][1]);
     check_group_end();
 }
@@ -202,9 +201,7 @@ static void figures_group(void)
 static void settings_group(uint64_t q)
 {
     check_group_begin("every setting, q = %" PRIu64, q);
-    for (uint64_t n = 0; n <= 18; n++)
-        for (uint64_t k = 0; k <= 18; k++)
-            compare_setting(q, n, k);
+    every_shape(q, compare_setting);
     check_group_end();
 }
 
@@ -216,13 +213,13 @@ static void limit_group(void)
         {3, 11, 1, 88573}, {3, 11, 10, 88573}, {2, 8, 3, 97155}, {2, 8, 5, 97155},
     };
     check_group_begin("listings of about 65,536 lines");
-    for (unsigned place = 0; place < sizeof nearest / sizeof *nearest; place++) {
+    for (unsigned place = 0; place < COUNT_OF(nearest); place++) {
         const setting *s = &nearest[place];
         char text[64];
         size_t length = write_setting(s->q, s->n, s->k, text);
         uint64_t lines = 0;
         run((const uint8_t *)text, length);
-        compare_output((const uint8_t *)text, length, BY_FORMULAS);
+        compare_output((const uint8_t *)text, length);
         for (size_t byte = 0; byte < output.length; byte++)
             lines += output.text[byte] == '\n';
         check(lines == (s->count <= 65536 ? s->count + 1 : 1), SETTING_FORMAT ": %" PRIu64 " lines", SETTING_VALUES(s),
@@ -235,7 +232,7 @@ static void limit_group(void)
 static void numbers_group(void)
 {
     static const uint64_t near[] = {0, 1, 2, 4, 6, 8, 9, 256, 258, 999};
-    enum { NEAR = sizeof near / sizeof *near };
+    enum { NEAR = COUNT_OF(near) };
     check_group_begin("numbers of 1 to 3 digits");
     for (uint64_t number = 0; number < 1000; number++) {
         compare_setting(number, 3, 1);
@@ -274,7 +271,7 @@ static void malformed_group(void)
         TEXT("extended,ferrers,rows\n"), TEXT("refused,11\n"), TEXT("\"2\",\"3\",\"1\"\n"), TEXT("2,3,1\x1A"),
     };
     check_group_begin("inputs that are no line");
-    for (unsigned place = 0; place < sizeof texts / sizeof *texts; place++)
+    for (unsigned place = 0; place < COUNT_OF(texts); place++)
         compare_literal(texts[place].input, texts[place].length, "refused,11\n");
     check_group_end();
 #undef TEXT
@@ -313,7 +310,7 @@ static void cut_group(void)
 {
     static const char *const lines[] = {line, "2,16,15\n", "999,999,999\n", "7,10,0\n"};
     check_group_begin("lines cut short");
-    for (unsigned place = 0; place < sizeof lines / sizeof *lines; place++)
+    for (unsigned place = 0; place < COUNT_OF(lines); place++)
         for (size_t length = strlen(lines[place]), cut = 1; cut <= length; cut++) {
             compare((const uint8_t *)lines[place], length - cut);
             compare((const uint8_t *)lines[place] + cut, length - cut);
@@ -348,10 +345,10 @@ static void long_group(void)
     static const size_t lengths[] = {13, 14, 4096, 65535, 65536, 65537, LONG_INPUT};
     static uint8_t input[LONG_INPUT];
     check_group_begin("long inputs");
-    for (unsigned place = 0; place < sizeof texts / sizeof *texts; place++) {
+    for (unsigned place = 0; place < COUNT_OF(texts); place++) {
         for (size_t byte = 0, period = strlen(texts[place]); byte < sizeof input; byte++)
             input[byte] = (uint8_t)texts[place][byte % period];
-        for (unsigned number = 0; number < sizeof lengths / sizeof *lengths; number++)
+        for (unsigned number = 0; number < COUNT_OF(lengths); number++)
             compare(input, lengths[number]);
         memset(input + strlen(texts[place]), 0, sizeof input - strlen(texts[place]));
         compare(input, sizeof input);
@@ -363,10 +360,10 @@ static void pieces_group(void)
 {
     static const char *const inputs[] = {line, "2,12,1\n", "2,16,6\n", "999,999,999\n", "2,3,1", "2,3,1\n\n", "x"};
     check_group_begin("inputs in pieces");
-    for (unsigned place = 0; place < sizeof inputs / sizeof *inputs; place++)
+    for (unsigned place = 0; place < COUNT_OF(inputs); place++)
         for (size_t piece = 1; piece <= 4; piece++) {
             run_pieces((const uint8_t *)inputs[place], strlen(inputs[place]), piece);
-            compare_output((const uint8_t *)inputs[place], strlen(inputs[place]), BY_FORMULAS);
+            compare_output((const uint8_t *)inputs[place], strlen(inputs[place]));
         }
     check_group_end();
 }
@@ -407,9 +404,9 @@ static void closed_output_group(void)
     static const char text[] = "2,16,15\n";
     static const size_t most[] = {0, 1, 22, 23, 20480, 65536, 1000000, 17000000};
     size_t whole_length;
-    char *whole = expected((const uint8_t *)text, strlen(text), BY_FORMULAS, &whole_length);
+    char *whole = expected((const uint8_t *)text, strlen(text), &whole_length);
     check_group_begin("output closed early");
-    for (unsigned place = 0; place < sizeof most / sizeof *most; place++) {
+    for (unsigned place = 0; place < COUNT_OF(most); place++) {
         closed_output(text, whole, most[place], true);
         closed_output(text, whole, most[place], false);
     }
@@ -430,7 +427,7 @@ static void failing_output_group(void)
     static const char *const lines[] = {line, "2,16,15\n", "4,3,1\n"};
     int full = open("/dev/full", O_WRONLY | O_CLOEXEC);
     check_group_begin("output that fails");
-    for (unsigned place = 0; place < sizeof lines / sizeof *lines; place++) {
+    for (unsigned place = 0; place < COUNT_OF(lines); place++) {
         failing_output(lines[place], NO_END, "no output");
         if (full != NO_END)
             failing_output(lines[place], full, "full device");
@@ -453,7 +450,7 @@ static void failing_input_group(void)
         close(from[1]);
         collect_up_to(from[0], OUTPUT_LIMIT);
         output.status = program_wait(child);
-        compare_output((const uint8_t *)"", 0, BY_FORMULAS);
+        compare_output((const uint8_t *)"", 0);
     }
     close(folder);
     check_group_end();

@@ -1,7 +1,7 @@
 /*
  * Tests Draw, Number and Convert: every small setting whole, against the list of all reduced matrices sorted by
- * comparing two at a time; all accepted settings at random indexes, against the formulas; the figures of documents
- * 001 and 01; damaged matrices, lengths, numberings and indexes.
+ * comparing two at a time; all accepted settings at random indexes and random matrices, against counting and searching;
+ * the figures of documents 001 and 01; damaged matrices, lengths, numberings and indexes.
  *
  * Two examples of document 001 are left out: the tableaux of Example 6 are damaged in our text (all four are
  * printed as full boxes of ones or nearly so), and Example 8 is of the combined numbering, which we don't have.
@@ -11,19 +11,7 @@
 #include "check.h"
 #include "harness.h"
 
-#include <stdlib.h>
-
-enum { WHOLE_LIMIT = 5000, RANDOM_ROUNDS = 24 };
-
-static const uint64_t numberings[] = {EXTENDED, FERRERS};
-
-static setting settings[SETTING_LIMIT];
-static size_t setting_count;
-
-static size_t width_of(const setting *s)
-{
-    return (size_t)(s->k * s->n);
-}
+enum { WHOLE_LIMIT = 5000, DRAWN_ROUNDS = 8, NUMBERED_ROUNDS = 40, DAMAGE_ROUNDS = 8000, ORDER_ROUNDS = 20000 };
 
 /* Whether Draw gives exactly this matrix and writes nowhere else. */
 static bool draws(const setting *s, uint64_t numbering, uint64_t index, const uint8_t *matrix)
@@ -89,13 +77,13 @@ static void whole_groups(uint64_t q)
 {
     for (unsigned place = 0; place < 2; place++) {
         check_group_begin("whole settings, q = %" PRIu64 ", numbering %" PRIu64, q, numberings[place]);
-        for (size_t number = 0; number < setting_count; number++)
+        for (size_t number = 0; number < setting_count; number += thinning)
             if (settings[number].q == q && settings[number].count <= WHOLE_LIMIT)
                 compare_listing(&settings[number], numberings[place]);
         check_group_end();
     }
     check_group_begin("whole settings, q = %" PRIu64 ", conversions", q);
-    for (size_t number = 0; number < setting_count; number++)
+    for (size_t number = 0; number < setting_count; number += thinning)
         if (settings[number].q == q && settings[number].count <= WHOLE_LIMIT)
             compare_conversions(&settings[number]);
     check_group_end();
@@ -103,18 +91,24 @@ static void whole_groups(uint64_t q)
 
 /* ---- All settings at random ---- */
 
-/* One index: against the formulas, back again, and before its neighbour in the order. */
-static void compare_index(const setting *s, uint64_t numbering, uint64_t index)
+/* One matrix with its index, there and back, in both numberings. */
+static void compare_pair(const setting *s, uint64_t numbering, uint64_t index, const uint8_t *matrix)
 {
-    uint8_t matrix[MAX_LENGTH * MAX_LENGTH], next[MAX_LENGTH * MAX_LENGTH] = {0};
     uint64_t other = EXTENDED + FERRERS - numbering, converted;
-    second_draw(s->q, s->n, s->k, numbering, index, matrix, width_of(s));
-    second_convert(s->q, s->n, s->k, numbering, other, index, &converted);
+    second_number(s->q, s->n, s->k, other, matrix, width_of(s), &converted);
     check(draws(s, numbering, index, matrix), SETTING_FORMAT ": draw of %" PRIu64, SETTING_VALUES(s), index);
     check(numbers(s, numbering, matrix, index), SETTING_FORMAT ": number of %" PRIu64, SETTING_VALUES(s), index);
     check(numbers(s, other, matrix, converted), SETTING_FORMAT ": other of %" PRIu64, SETTING_VALUES(s), index);
     check(converts(s, numbering, other, index, converted) && converts(s, other, numbering, converted, index),
           SETTING_FORMAT ": conversion of %" PRIu64, SETTING_VALUES(s), index);
+}
+
+/* One index: the matrix that the search finds, and the neighbour that comes after it in the order. */
+static void compare_index(const setting *s, uint64_t numbering, uint64_t index)
+{
+    uint8_t matrix[MAX_LENGTH * MAX_LENGTH], next[MAX_LENGTH * MAX_LENGTH] = {0};
+    second_draw(s->q, s->n, s->k, numbering, index, matrix, width_of(s));
+    compare_pair(s, numbering, index, matrix);
     if (index + 1 == s->count)
         return;
     uint32_t refusal = pandrwyg_draw(s->q, s->n, s->k, numbering, index + 1, next, width_of(s));
@@ -122,27 +116,39 @@ static void compare_index(const setting *s, uint64_t numbering, uint64_t index)
           SETTING_FORMAT ": order after %" PRIu64, SETTING_VALUES(s), index);
 }
 
+/* A random matrix, and the number of matrices before it. */
+static void compare_matrix(const setting *s, uint64_t numbering)
+{
+    uint8_t matrix[MAX_LENGTH * MAX_LENGTH];
+    uint64_t index;
+    random_reduced(s, matrix);
+    second_number(s->q, s->n, s->k, numbering, matrix, width_of(s), &index);
+    compare_pair(s, numbering, index, matrix);
+}
+
 static void random_group(uint64_t q, uint64_t numbering)
 {
     check_group_begin("all settings, q = %" PRIu64 ", numbering %" PRIu64, q, numbering);
-    for (size_t number = 0; number < setting_count; number++) {
+    for (size_t number = 0; number < setting_count; number += thinning) {
         const setting *s = &settings[number];
         if (s->q != q)
             continue;
         compare_index(s, numbering, 0);
         compare_index(s, numbering, s->count - 1);
-        for (unsigned round = 0; round < RANDOM_ROUNDS; round++)
+        for (unsigned round = 0; round < DRAWN_ROUNDS; round++)
             compare_index(s, numbering, random_index(s->count));
+        for (unsigned round = 0; round < NUMBERED_ROUNDS; round++)
+            compare_matrix(s, numbering);
     }
     check_group_end();
 }
 
-/* Two indexes far apart: the smaller gives the matrix that comes first. No formula of ours takes part. */
+/* Two indexes far apart: the smaller gives the matrix that comes first. Nothing is counted here. */
 static void order_group(uint64_t numbering)
 {
     uint8_t first[MAX_LENGTH * MAX_LENGTH] = {0}, last[MAX_LENGTH * MAX_LENGTH] = {0};
     check_group_begin("order of distant indexes, numbering %" PRIu64, numbering);
-    for (unsigned round = 0; round < 20000; round++) {
+    for (unsigned round = 0; round < ORDER_ROUNDS / thinning; round++) {
         const setting *s = &settings[random_below(setting_count)];
         uint64_t one = random_index(s->count), two = random_index(s->count);
         uint32_t refusals = pandrwyg_draw(s->q, s->n, s->k, numbering, one, first, width_of(s)) |
@@ -188,7 +194,6 @@ static void example_1_group(void)
     check(second_tableau(7, 3, matrix, found_heights, found_tableau) == sizeof tableau, "size");
     check(memcmp(found_heights, heights, sizeof heights) == 0, "diagram");
     check(memcmp(found_tableau, tableau, sizeof tableau) == 0, "tableau");
-    compare_figure(2, 7, 3, rows, 5062, 6620);
     for (unsigned place = 0; place < sizeof places; place++) {
         matrix[places[place]] ^= 1;
         check(numbers(&s, FERRERS, matrix, 6144 + (476 ^ (512u >> place))), "entry %u of the tableau", place + 1);
@@ -211,63 +216,34 @@ static void example_2_group(void)
     check_group_end();
 }
 
-/* Whether the first matrix has a smaller index than the second. */
-static bool precedes(uint64_t q, uint64_t n, uint64_t k, uint64_t numbering, const char *first, const char *second)
+/* The first matrix has a smaller index than the second. */
+static void compare_order(uint64_t q, uint64_t n, uint64_t k, uint64_t numbering, const char *first, const char *second)
 {
     uint8_t first_matrix[MAX_LENGTH * MAX_LENGTH], second_matrix[MAX_LENGTH * MAX_LENGTH];
     size_t first_length = read_rows(first, first_matrix), second_length = read_rows(second, second_matrix);
     harness_answer one = harness_number(q, n, k, numbering, first_matrix, first_length);
     harness_answer two = harness_number(q, n, k, numbering, second_matrix, second_length);
-    return one.refusal == ACCEPTED && two.refusal == ACCEPTED && one.value < two.value &&
-           second_compare(q, n, k, numbering, first_matrix, second_matrix) < 0;
+    check(one.refusal == ACCEPTED && two.refusal == ACCEPTED && one.value < two.value, "%s isn't before %s", first,
+          second);
 }
 
-/* Example 3: Y < X < Z. */
-static void example_3_group(void)
+static void orders_group(void)
 {
-    static const char *const x = "100010/010000/001100";
-    static const char *const y = "100000/011000/000100";
-    static const char *const z = "100000/010000/000010";
-    check_group_begin("document 001, Example 3");
-    check(precedes(2, 6, 3, EXTENDED, y, x), "Y isn't before X");
-    check(precedes(2, 6, 3, EXTENDED, x, z), "X isn't before Z");
-    check(precedes(2, 6, 3, EXTENDED, y, z), "Y isn't before Z");
+    check_group_begin("figures of the orders");
+    compare_orders(compare_order);
     check_group_end();
 }
 
-/* Examples 4, 5 and 7: 5 * 155 + 8 * 15 + 4 * 7 + 1 * 3 + 2 * 1 = 928; 1312 + 0 + 11 = 1323. */
-static void examples_4_5_7_group(void)
+/* Examples 4 and 7: 5 * 155 + 8 * 15 + 4 * 7 + 1 * 3 + 2 * 1 = 928; 1312 + 0 + 11 = 1323. */
+static void examples_4_7_group(void)
 {
-    check_group_begin("document 001, Examples 4, 5 and 7");
+    check_group_begin("document 001, sums of Examples 4 and 7");
     check(5 * 155 + 8 * 15 + 4 * 7 + 1 * 3 + 2 * 1 == 928, "sum of Example 4");
     check(3 * 32 + 3 * 64 + 2 * 128 + 256 + 512 == 1312, "sum of Example 7");
-    compare_figure(2, 6, 3, "011001/000100/000011", 928, 1323);
     check_group_end();
 }
 
-/* Larger size first, whatever the entries are. */
-static void ferrers_size_group(void)
-{
-    check_group_begin("Ferrers order, size");
-    check(precedes(2, 4, 2, FERRERS, "1011/0111", "1000/0010"), "4 dots, 3 dots");
-    check(precedes(3, 4, 2, FERRERS, "1202/0012", "0100/0010"), "3 dots, 2 dots");
-    check(precedes(2, 3, 1, FERRERS, "011", "001"), "1 dot, none");
-    compare_figure(2, 3, 1, "001", 6, 6);
-    check_group_end();
-}
-
-/* At equal size more dots first, at the least i where the diagrams differ. */
-static void ferrers_diagram_group(void)
-{
-    check_group_begin("Ferrers order, diagrams");
-    check(precedes(2, 4, 2, FERRERS, "0101/0011", "1000/0001"), "2,0 before 1,1");
-    check(precedes(2, 6, 3, FERRERS, "010101/001101/000011", "100000/000100/000010"), "3,2,0 before 3,1,1");
-    check(precedes(2, 6, 3, FERRERS, "100000/000100/000010", "100000/001000/000001"), "3,1,1 before 2,2,1");
-    check(precedes(5, 6, 3, FERRERS, "010404/001404/000014", "100000/000100/000010"), "3,2,0 before 3,1,1, q = 5");
-    check_group_end();
-}
-
-/* At equal diagrams the smaller {x} first: right column first, top entry first. In a full box {x} is the index. */
+/* The tableau is read right column first, top entry first. In a full box {x} is the index. */
 static void ferrers_tableau_group(void)
 {
     static const struct {
@@ -280,20 +256,18 @@ static void ferrers_tableau_group(void)
     uint8_t matrix[8];
     setting s = {3, 4, 2, 0};
     check_group_begin("Ferrers order, tableaux");
-    for (size_t place = 0; place < sizeof boxes / sizeof *boxes; place++) {
+    for (size_t place = 0; place < COUNT_OF(boxes); place++) {
         read_rows(boxes[place].rows, matrix);
         check(numbers(&s, FERRERS, matrix, boxes[place].index), "number of %s", boxes[place].rows);
         check(draws(&s, FERRERS, boxes[place].index, matrix), "draw of %s", boxes[place].rows);
-        if (place > 0)
-            check(precedes(3, 4, 2, FERRERS, boxes[place - 1].rows, boxes[place].rows), "%s", boxes[place].rows);
     }
     check_group_end();
 }
 
-/* Document 01's examples of Draw, Number and Convert; those of Receive stand with the reduction. */
-static void bench_group(void)
+/* The examples of Draw, Number and Convert; those of Receive stand with the reduction. */
+static void figures_group(void)
 {
-    check_group_begin("document 01, matrices with their indexes");
+    check_group_begin("matrices with their indexes");
     compare_figures(compare_figure);
     check_group_end();
 }
@@ -345,7 +319,7 @@ static const struct {
 static void damage_figures_group(void)
 {
     check_group_begin("damaged matrices");
-    for (size_t place = 0; place < sizeof damages / sizeof *damages; place++) {
+    for (size_t place = 0; place < COUNT_OF(damages); place++) {
         uint8_t matrix[MAX_LENGTH * MAX_LENGTH];
         size_t length = read_rows(damages[place].rows, matrix);
         uint32_t refusal = number_refusal(damages[place].q, damages[place].n, damages[place].k, matrix, length);
@@ -373,18 +347,13 @@ static void compare_all_matrices(uint64_t q, uint64_t n, uint64_t k)
 
 static void all_matrices_group(void)
 {
+    static const setting shapes[] = {
+        {2, 1, 1, 0}, {2, 4, 1, 0}, {2, 3, 2, 0}, {2, 4, 2, 0}, {2, 3, 3, 0}, {3, 3, 2, 0}, {3, 2, 2, 0}, {5, 2, 2, 0},
+        {5, 4, 1, 0}, {7, 2, 2, 0}, {7, 3, 1, 0},
+    };
     check_group_begin("every matrix of small shapes, entries up to q");
-    compare_all_matrices(2, 1, 1);
-    compare_all_matrices(2, 4, 1);
-    compare_all_matrices(2, 3, 2);
-    compare_all_matrices(2, 4, 2);
-    compare_all_matrices(2, 3, 3);
-    compare_all_matrices(3, 3, 2);
-    compare_all_matrices(3, 2, 2);
-    compare_all_matrices(5, 2, 2);
-    compare_all_matrices(5, 4, 1);
-    compare_all_matrices(7, 2, 2);
-    compare_all_matrices(7, 3, 1);
+    for (size_t place = 0; place < COUNT_OF(shapes); place++)
+        compare_all_matrices(shapes[place].q, shapes[place].n, shapes[place].k);
     check_group_end();
 }
 
@@ -419,13 +388,13 @@ static uint32_t damage(const setting *s, unsigned kind, uint8_t *matrix)
 static void random_damage_group(unsigned kind)
 {
     check_group_begin("random damage, kind %u", kind);
-    for (unsigned round = 0; round < 20000; round++) {
+    for (unsigned round = 0; round < DAMAGE_ROUNDS / thinning; round++) {
         const setting *s = &settings[random_below(setting_count)];
         uint8_t matrix[MAX_LENGTH * MAX_LENGTH];
         uint64_t numbering = numberings[round % 2], index;
         if (s->k == 0)
             continue;
-        second_draw(s->q, s->n, s->k, numbering, random_index(s->count), matrix, width_of(s));
+        random_reduced(s, matrix);
         uint32_t must = damage(s, kind, matrix);
         uint32_t refusal = second_number(s->q, s->n, s->k, numbering, matrix, width_of(s), &index);
         harness_answer answer = harness_number(s->q, s->n, s->k, numbering, matrix, width_of(s));
@@ -449,7 +418,7 @@ static uint32_t refused_draw(uint64_t q, uint64_t n, uint64_t k, uint64_t number
 static void compare_length(const setting *s, size_t length)
 {
     uint8_t matrix[MAX_LENGTH * MAX_LENGTH + 2] = {0};
-    second_draw(s->q, s->n, s->k, EXTENDED, s->count - 1, matrix, width_of(s));
+    random_reduced(s, matrix);
     uint32_t expected = length == width_of(s) ? ACCEPTED : REFUSED_LENGTH;
     check(refused_draw(s->q, s->n, s->k, EXTENDED, s->count - 1, length) == expected,
           SETTING_FORMAT ": draw into %zu bytes", SETTING_VALUES(s), length);
@@ -462,7 +431,7 @@ static void compare_length(const setting *s, size_t length)
 static void lengths_group(void)
 {
     check_group_begin("lengths");
-    for (size_t number = 0; number < setting_count; number++) {
+    for (size_t number = 0; number < setting_count; number += thinning) {
         const setting *s = &settings[number];
         const size_t width = width_of(s), limit = MAX_LENGTH * MAX_LENGTH;
         compare_length(s, width);
@@ -481,7 +450,7 @@ static void lengths_group(void)
 static const uint64_t numbering_values[] = {
     0, 1, 2, 3, 255, 256, 257, 258, 65537, (UINT64_C(1) << 32) + 1, (UINT64_C(1) << 32) + 2, UINT64_MAX,
 };
-enum { NUMBERING_COUNT = sizeof numbering_values / sizeof *numbering_values };
+enum { NUMBERING_COUNT = COUNT_OF(numbering_values) };
 
 static uint32_t numbering_refusal(uint64_t numbering)
 {
@@ -530,7 +499,7 @@ static void compare_edge(const setting *s, uint64_t index)
 static void edges_group(void)
 {
     check_group_begin("first and last indexes, and those from N on");
-    for (size_t number = 0; number < setting_count; number++) {
+    for (size_t number = 0; number < setting_count; number += thinning) {
         const setting *s = &settings[number];
         compare_edge(s, 0);
         compare_edge(s, s->count - 1);
@@ -582,11 +551,12 @@ static void fillings_group(void)
 {
     static const uint8_t fillings[] = {0, 1, 2, 6, 127, 128, 255};
     check_group_begin("draws into buffers of any filling");
-    for (unsigned round = 0; round < 20000; round++) {
+    for (unsigned round = 0; round < DAMAGE_ROUNDS / thinning; round++) {
         const setting *s = &settings[random_below(setting_count)];
         uint8_t expected[MAX_LENGTH * MAX_LENGTH], drawn[MAX_LENGTH * MAX_LENGTH];
-        uint64_t numbering = numberings[round % 2], index = random_index(s->count);
-        second_draw(s->q, s->n, s->k, numbering, index, expected, width_of(s));
+        uint64_t numbering = numberings[round % 2], index;
+        random_reduced(s, expected);
+        second_number(s->q, s->n, s->k, numbering, expected, width_of(s), &index);
         memset(drawn, fillings[round % 7], sizeof drawn);
         if (round % 3 == 0)
             random_entries(256, drawn, sizeof drawn);
@@ -601,12 +571,10 @@ static void figure_groups(void)
 {
     example_1_group();
     example_2_group();
-    example_3_group();
-    examples_4_5_7_group();
-    ferrers_size_group();
-    ferrers_diagram_group();
+    examples_4_7_group();
+    orders_group();
     ferrers_tableau_group();
-    bench_group();
+    figures_group();
 }
 
 static void damage_groups(void)
@@ -622,10 +590,9 @@ static void damage_groups(void)
     fillings_group();
 }
 
-int main(void)
+int main(int argument_count, char **arguments)
 {
-    second_init();
-    setting_count = accepted_settings(settings, UINT64_MAX);
+    cases_begin(argument_count, arguments);
     for (unsigned place = 0; place < FIELD_COUNT; place++)
         whole_groups(second_field_sizes[place]);
     for (unsigned place = 0; place < FIELD_COUNT; place++) {

@@ -7,20 +7,10 @@
 #include "check.h"
 #include "harness.h"
 
-#include <stdlib.h>
-
 enum { SETTINGS = 468, SCRIPTS = 40, CALLS = 60, TRIPS = 20, FORGERIES = 6, DAMAGES = 100, ROW_LIMIT = MAX_LENGTH + 1 };
 
-#define COUNT_OF(array) (sizeof(array) / sizeof *(array))
-
-static setting settings[SETTING_LIMIT];
-static size_t setting_count;
-
-/* How many times less than the whole is run. */
-static size_t thinning = 1;
-
 /* How often each refusal was met, and each row's answer; a script that meets only some of them tests little. */
-static uint64_t take_refusals[16], close_refusals[16], raised_rows, held_rows;
+static uint64_t take_refusals[REFUSAL_LIMIT], close_refusals[REFUSAL_LIMIT], raised_rows, held_rows;
 
 /* ---- Both receivers ---- */
 
@@ -571,12 +561,9 @@ static void damage_groups(void)
     forged_dimensions_group();
 }
 
-int main(int argc, char **argv)
+int main(int argument_count, char **arguments)
 {
-    if (argc > 1 && atoi(argv[1]) > 0)
-        thinning = (size_t)atoi(argv[1]);
-    second_init();
-    setting_count = accepted_settings(settings, UINT64_MAX);
+    cases_begin(argument_count, arguments);
     settings_group();
     for (unsigned place = 0; place < FIELD_COUNT; place++)
         scripts_group(second_field_sizes[place]);

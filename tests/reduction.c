@@ -1,17 +1,13 @@
 /*
- * Tests Reduce and Receive against Gauss-Jordan elimination over the whole list: random lists of every length of row,
- * every small list, the round trip from Draw through random linear combinations, document 01's figures, and damage.
+ * Tests Reduce and Receive, by value and in its C form, against Gauss-Jordan elimination over the whole list: random
+ * lists of every length of row, every small list, the round trip from Draw through random linear combinations, document
+ * 01's figures, and damage.
  */
 #include "cases.h"
 #include "check.h"
 #include "harness.h"
 
-enum { SQUARE = MAX_LENGTH * MAX_LENGTH, LIST_ROUNDS = 60, TRIP_ROUNDS = 12, ANSWER = 9 };
-
-static const uint64_t numberings[] = {EXTENDED, FERRERS};
-
-static setting settings[SETTING_LIMIT];
-static size_t setting_count;
+enum { SQUARE = MAX_LENGTH * MAX_LENGTH, LIST_ROUNDS = 60, TRIP_ROUNDS = 12, DRAWN_TRIPS = 3, ANSWER = 9 };
 
 /* A list of rows over a field; it holds one row more than is accepted. */
 typedef struct {
@@ -186,7 +182,17 @@ static void expected_answer(uint32_t refusal, uint64_t index, uint64_t dimension
     answer[8] = (uint8_t)dimension;
 }
 
-/* Whether Receive gives this refusal and these nine bytes, and leaves the rows and all other bytes alone. */
+/* Whether Receive by value gives this refusal, index and dimension; done, it tells no dimension. */
+static bool receives_by_value(const setting *s, uint64_t numbering, uint64_t r, const uint8_t *rows, size_t length,
+                              uint32_t refusal, uint64_t index, uint64_t dimension)
+{
+    harness_answer answer = harness_receive(s->q, s->n, s->k, numbering, r, rows, length);
+    bool spanned = refusal == REFUSED_TOO_FEW || refusal == REFUSED_TOO_MANY;
+    return answer.refusal == refusal && answer.value == (refusal == ACCEPTED ? index : 0) &&
+           answer.dimension == (spanned ? dimension : 0);
+}
+
+/* Whether both forms of Receive give this refusal and these answers, and leave the rows and all other bytes alone. */
 static bool receives(const setting *s, uint64_t numbering, const list *one,
                      uint32_t refusal, uint64_t index, uint64_t dimension)
 {
@@ -198,6 +204,7 @@ static bool receives(const setting *s, uint64_t numbering, const list *one,
                                       buffer.bytes, ANSWER);
     expected_answer(refusal, index, dimension, expected);
     return given == refusal && memcmp(buffer.bytes, expected, ANSWER) == 0 && outside_filled(&buffer, ANSWER) &&
+           receives_by_value(s, numbering, one->r, one->rows, length_of(one), refusal, index, dimension) &&
            memcmp(kept.rows, one->rows, length_of(one)) == 0;
 }
 
@@ -215,7 +222,7 @@ static void receive_group(uint64_t q)
 {
     list one;
     check_group_begin("receive, random lists, q = %" PRIu64, q);
-    for (size_t number = 0; number < setting_count; number++)
+    for (size_t number = 0; number < setting_count; number += thinning)
         for (unsigned round = 0; round < LIST_ROUNDS && settings[number].q == q; round++) {
             random_list(&one, q, settings[number].n, round);
             compare_receive(&settings[number], numberings[round / 4 % 2], &one);
@@ -252,18 +259,24 @@ static void every_list_group(uint64_t q, uint64_t n, uint64_t most)
     check_group_end();
 }
 
+static void every_list_groups(void)
+{
+    static const struct {
+        uint64_t q, n, most;
+    } lists[] = {{2, 3, 4}, {2, 4, 3}, {3, 3, 2}, {3, 2, 4}, {5, 2, 3}, {7, 2, 2}};
+    for (size_t place = 0; place < COUNT_OF(lists); place++)
+        every_list_group(lists[place].q, lists[place].n, lists[place].most);
+}
+
 /* ---- Round trip ---- */
 
 /* Draws, mixes at random and receives: the index again, or too few with the true dimension. */
-static void round_trip(const setting *s, uint64_t numbering, uint64_t r)
+static void round_trip(const setting *s, uint64_t numbering, uint64_t index, const uint8_t *matrix, uint64_t r)
 {
-    uint8_t matrix[SQUARE], drawn[SQUARE] = {0}, factors[ROWS_LIMIT];
-    size_t width = (size_t)(s->k * s->n);
-    uint64_t index = random_index(s->count);
+    uint8_t drawn[SQUARE] = {0}, factors[ROWS_LIMIT];
     list one = {s->q, s->n, r, {0}};
-    second_draw(s->q, s->n, s->k, numbering, index, matrix, width);
-    uint32_t refusal = pandrwyg_draw(s->q, s->n, s->k, numbering, index, drawn, width);
-    check(refusal == ACCEPTED && memcmp(drawn, matrix, width) == 0, SETTING_FORMAT ": draw", SETTING_VALUES(s));
+    uint32_t refusal = pandrwyg_draw(s->q, s->n, s->k, numbering, index, drawn, width_of(s));
+    check(refusal == ACCEPTED && memcmp(drawn, matrix, width_of(s)) == 0, SETTING_FORMAT ": draw", SETTING_VALUES(s));
     random_entries(s->q, factors, (size_t)(r * s->k));
     for (uint64_t row = 0; row < r; row++)
         mix_rows(s->q, s->n, s->k, matrix, factors + row * s->k, one.rows + row * s->n);
@@ -274,17 +287,30 @@ static void round_trip(const setting *s, uint64_t numbering, uint64_t r)
           SETTING_VALUES(s), numbering, index, r, rank);
 }
 
+/* A few matrices are searched for by a random index, most are random and their index is counted. */
+static void round_trips(const setting *s, uint64_t numbering, unsigned round)
+{
+    uint8_t matrix[SQUARE];
+    uint64_t index = random_index(s->count);
+    if (round < DRAWN_TRIPS) {
+        second_draw(s->q, s->n, s->k, numbering, index, matrix, width_of(s));
+    } else {
+        random_reduced(s, matrix);
+        second_number(s->q, s->n, s->k, numbering, matrix, width_of(s), &index);
+    }
+    round_trip(s, numbering, index, matrix, random_below(65));
+    round_trip(s, numbering, index, matrix, s->k + random_below(4));
+    if (round == 0)
+        round_trip(s, numbering, index, matrix, MAX_ROWS);
+}
+
 static void round_trip_group(uint64_t q, uint64_t numbering)
 {
     check_group_begin("round trip, q = %" PRIu64 ", numbering %" PRIu64, q, numbering);
-    for (size_t number = 0; number < setting_count; number++) {
+    for (size_t number = 0; number < setting_count; number += thinning) {
         const setting *s = &settings[number];
-        for (unsigned round = 0; round < TRIP_ROUNDS && s->q == q; round++) {
-            round_trip(s, numbering, random_below(65));
-            round_trip(s, numbering, s->k + random_below(4));
-        }
-        if (s->q == q)
-            round_trip(s, numbering, MAX_ROWS);
+        for (unsigned round = 0; round < TRIP_ROUNDS && s->q == q; round++)
+            round_trips(s, numbering, round);
     }
     check_group_end();
 }
@@ -353,7 +379,7 @@ static const uint64_t row_counts[] = {
     0, 1, 2, 63, 64, 65, 66, 255, 256, 257, 65536, UINT64_C(1) << 32, (UINT64_C(1) << 32) + 1, UINT64_C(1) << 60,
     UINT64_C(1) << 63, (UINT64_C(1) << 63) + 1, UINT64_MAX,
 };
-enum { ROW_COUNTS = sizeof row_counts / sizeof *row_counts };
+enum { ROW_COUNTS = COUNT_OF(row_counts) };
 
 /* Reduce with any numbers: the same refusal as the second; refused, no byte of the output is written. */
 static void compare_reduce_call(uint64_t q, uint64_t n, uint64_t r,
@@ -412,7 +438,7 @@ static void reduce_entries_group(void)
 {
     list one;
     check_group_begin("reduce, oversized entries");
-    for (unsigned round = 0; round < 4000; round++) {
+    for (unsigned round = 0; round < 4000 / thinning; round++) {
         uint64_t q = second_field_sizes[round % FIELD_COUNT];
         random_list(&one, q, 1 + random_below(MAX_LENGTH), round / FIELD_COUNT);
         if (one.r == 0)
@@ -462,6 +488,9 @@ static void compare_receive_call(const setting *s, uint64_t numbering, uint64_t 
     uint8_t expected[ANSWER];
     uint64_t index, dimension;
     uint32_t refusal = second_receive(s->q, s->n, s->k, numbering, r, rows, length, &index, &dimension);
+    check(receives_by_value(s, numbering, r, rows, length, refusal, index, dimension),
+          SETTING_FORMAT " in %" PRIu64 ", %" PRIu64 " rows, %zu bytes: by value, not refusal %u",
+          SETTING_VALUES(s), numbering, r, length, refusal);
     refusal = expected_refusal(refusal, answer_length);
     expected_answer(refusal, index, dimension, expected);
     memset(&buffer, FILLING, sizeof buffer);
@@ -513,12 +542,12 @@ static void receive_answers_group(void)
     static const size_t lengths[] = {0, 1, 8, 9, 10, 16, 18, 255, 256};
     list one;
     check_group_begin("receive, answer lengths");
-    for (unsigned round = 0; round < 4000; round++) {
+    for (unsigned round = 0; round < 4000 / thinning; round++) {
         const setting *s = &settings[random_below(setting_count)];
         random_list(&one, s->q, s->n, round);
         if (round % 4 == 0 && one.r > 0)
             one.rows[random_below(length_of(&one))] = (uint8_t)(round % 8 ? 255 : s->q);
-        for (unsigned place = 0; place < sizeof lengths / sizeof *lengths; place++)
+        for (unsigned place = 0; place < COUNT_OF(lengths); place++)
             compare_receive_call(s, numberings[round / 2 % 2], one.r, one.rows, length_of(&one), lengths[place]);
     }
     check_group_end();
@@ -529,7 +558,7 @@ static void receive_entries_group(void)
 {
     list one;
     check_group_begin("receive, oversized entries");
-    for (unsigned round = 0; round < 8000; round++) {
+    for (unsigned round = 0; round < 8000 / thinning; round++) {
         const setting *s = &settings[random_below(setting_count)];
         random_list(&one, s->q, s->n, round);
         if (one.r == 0)
@@ -575,10 +604,9 @@ static void receive_damage_groups(void)
     receive_faults_group();
 }
 
-int main(void)
+int main(int argument_count, char **arguments)
 {
-    second_init();
-    setting_count = accepted_settings(settings, UINT64_MAX);
+    cases_begin(argument_count, arguments);
     for (unsigned place = 0; place < FIELD_COUNT; place++) {
         uint64_t q = second_field_sizes[place];
         reduce_group(q);
@@ -587,12 +615,7 @@ int main(void)
         round_trip_group(q, EXTENDED);
         round_trip_group(q, FERRERS);
     }
-    every_list_group(2, 3, 4);
-    every_list_group(2, 4, 3);
-    every_list_group(3, 3, 2);
-    every_list_group(3, 2, 4);
-    every_list_group(5, 2, 3);
-    every_list_group(7, 2, 2);
+    every_list_groups();
     figures_group();
     inverses_group();
     reduce_damage_groups();

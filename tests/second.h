@@ -1,10 +1,11 @@
 /*
  * The second implementation: numbers the k-dimensional spaces of rows of length n over a small field.
  *
- * It is of other make than the library that it tests. Counts come from formula (1), partition counts from the
- * product formula of the Gaussian coefficient, reduction from Gauss-Jordan elimination column by column, and a
- * whole listing from sorting all reduced matrices by comparing two of them at a time. Formula numbers are those of
- * document 001; calls, refusals and orders are those of document 01.
+ * It is of other make than the library that it tests, slow and plain, and follows the definitions. Counts come from
+ * formula (1) on big numbers. The index of a matrix is the number of matrices that come before it in the order, counted
+ * set of pivot columns by set of pivot columns; Draw searches for the matrix with the index. Reduction is Gauss-Jordan
+ * elimination column by column, and a whole listing comes from sorting all reduced matrices by comparing two of them
+ * at a time. Formula numbers are those of document 001; calls, refusals and orders are those of document 01.
  *
  * Every call answers a refusal number, 0 for done. A refused call leaves lent buffers as they were and sets the
  * index, count and dimension to 0, except that too few and too many dimensions also give the dimension.
@@ -12,29 +13,11 @@
 #ifndef SECOND_H
 #define SECOND_H
 
+#include "refusals.h"
+
 #include <stddef.h>
 #include <stdint.h>
 #include <stdio.h>
-
-/* Document 01's refusal numbers, in its words. */
-enum {
-    ACCEPTED = 0,
-    REFUSED_FIELD = 1,           /* q is none of the field sizes */
-    REFUSED_SHAPE = 2,           /* n is outside 1 to 16 or k exceeds n */
-    REFUSED_COUNT = 3,           /* N exceeds 2^64 - 1 */
-    REFUSED_LENGTH = 4,          /* a lent buffer isn't exactly as long as it must be */
-    REFUSED_INDEX = 5,           /* the index is N or more */
-    REFUSED_ENTRY = 6,           /* an entry is q or more */
-    REFUSED_UNREDUCED = 7,       /* the matrix isn't reduced */
-    REFUSED_TOO_FEW = 8,         /* the span has fewer than k dimensions */
-    REFUSED_TOO_MANY = 9,        /* the span has more than k dimensions */
-    REFUSED_NUMBERING = 10,      /* the numbering is neither 1 nor 2 */
-    REFUSED_LINE = 11,           /* the list program's input isn't one line `q,n,k` */
-    REFUSED_LISTING = 12,        /* N exceeds 65,536 */
-    REFUSED_ROW_COUNT = 13,      /* there are more than 64 rows */
-    REFUSED_RECEIVER = 14,       /* the receiver is none that Start and Take can leave */
-    REFUSED_NO_COUNTERPART = 15  /* the drawn matrix has no number in the other numbering; never given here */
-};
 
 /* Document 01's two numberings. */
 enum { EXTENDED = 1, FERRERS = 2 };
@@ -56,11 +39,11 @@ uint64_t second_table_entry(unsigned place);
 /* Count: the number of spaces. Refuses 1, 2, 3. */
 uint32_t second_count(uint64_t q, uint64_t n, uint64_t k, uint64_t *count);
 
-/* Number: matrix to index by formulas (5), and (12) with (14). Refuses 1, 2, 3, 10, 4, 6, 7. */
+/* Number: matrix to index. Refuses 1, 2, 3, 10, 4, 6, 7. */
 uint32_t second_number(uint64_t q, uint64_t n, uint64_t k, uint64_t numbering,
                        const uint8_t *matrix, size_t length, uint64_t *index);
 
-/* Draw: index to matrix by algorithms A, B and C. Refuses 1, 2, 3, 10, 4, 5. */
+/* Draw: index to matrix. Refuses 1, 2, 3, 10, 4, 5. */
 uint32_t second_draw(uint64_t q, uint64_t n, uint64_t k, uint64_t numbering,
                      uint64_t index, uint8_t *matrix, size_t length);
 
@@ -101,6 +84,9 @@ uint32_t second_revive(uint64_t q, uint64_t n, uint64_t k, uint64_t dimension, c
 /* The identifying vector of a reduced matrix: column j from the right has the value 2^(j-1). */
 uint32_t second_identifying_vector(uint64_t n, uint64_t k, const uint8_t *matrix);
 
+/* The diagram of an identifying vector with k ones: F_1, F_2, ... go to heights (n - k of them). Answers the size m. */
+unsigned second_diagram(uint64_t n, uint64_t k, uint32_t vector, uint8_t *heights);
+
 /*
  * The Ferrers tableaux form of a reduced matrix: F_1, F_2, ... go to heights (n - k of them), the entries at the dots
  * to entries, column by column from the right and each from top to bottom. Answers the size m.
@@ -113,6 +99,9 @@ int second_ferrers_compare(uint64_t q, uint64_t n, uint64_t k, const uint8_t *fi
 int second_compare(uint64_t q, uint64_t n, uint64_t k, uint64_t numbering,
                    const uint8_t *first, const uint8_t *second);
 
+/* The same of two diagrams, which identifying vectors give: the Ferrers order without the tableaux. */
+int second_diagram_compare(uint64_t n, uint64_t k, uint32_t first, uint32_t second);
+
 /* Writes all reduced k x n matrices one after another (N*k*n bytes) and answers how many there are. */
 size_t second_enumerate(uint64_t q, uint64_t n, uint64_t k, uint8_t *out);
 
@@ -123,10 +112,7 @@ void second_sort(uint64_t q, uint64_t n, uint64_t k, uint64_t numbering, uint8_t
 size_t second_place(uint64_t q, uint64_t n, uint64_t k, uint64_t numbering,
                     const uint8_t *matrices, size_t count, const uint8_t *matrix);
 
-/* How a listing is made: by Draw and Number, or from all reduced matrices, sorted. */
-enum { BY_FORMULAS, BY_ORDERS };
-
 /* List: writes what the list program is to write for an input. Refuses 11, 1, 2, 3, 12. */
-uint32_t second_list(const uint8_t *input, size_t length, uint32_t make, FILE *out);
+uint32_t second_list(const uint8_t *input, size_t length, FILE *out);
 
 #endif

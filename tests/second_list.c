@@ -1,44 +1,50 @@
 /*
  * The list program of the second implementation: for any input the whole text that document 01 asks for. A listing
- * comes in two makes: by the formulas, each extended index drawn and its matrix numbered; or by the orders alone,
- * all reduced matrices sorted by either of them.
+ * comes from the orders alone: all reduced matrices, sorted by either of them.
  */
 #include "second.h"
 
+#include <inttypes.h>
 #include <stdbool.h>
 #include <stdlib.h>
+#include <string.h>
 
-/* The most lines of a listing, the most digits of a number of the input, and the room for a line of the output. */
-enum { LISTING_LIMIT = 65536, DIGIT_LIMIT = 3, LINE_ROOM = 320 };
+/* The most lines of a listing, and the first number that has four digits. */
+enum { LISTING_LIMIT = 65536, NUMBER_LIMIT = 1000 };
 
 /* ---- The input ---- */
 
-/* Reads a number and the byte after it; answers where the input goes on, or NULL where it has another form. */
-static const uint8_t *read_number(const uint8_t *input, const uint8_t *end, uint8_t after, uint64_t *number)
+/* The numbers between the first commas, whatever else stands there; 1000 stands for all that are larger. */
+static void read_numbers(const uint8_t *input, size_t length, uint64_t numbers[3])
 {
-    const uint8_t *first = input;
-    *number = 0;
-    while (input < end && input - first < DIGIT_LIMIT && *input >= '0' && *input <= '9')
-        *number = *number * 10 + (uint64_t)(*input++ - '0');
-    if (input == first || (*first == '0' && input - first > 1))
-        return NULL;
-    return input < end && *input == after ? input + 1 : NULL;
+    unsigned number = 0;
+    memset(numbers, 0, 3 * sizeof *numbers);
+    for (size_t place = 0; place < length; place++) {
+        if (input[place] == ',' && number < 2)
+            number++;
+        if (input[place] >= '0' && input[place] <= '9')
+            numbers[number] = numbers[number] * 10 + (uint64_t)(input[place] - '0');
+        if (numbers[number] > NUMBER_LIMIT)
+            numbers[number] = NUMBER_LIMIT;
+    }
 }
 
-/* Whether the input is one line of three numbers. */
-static bool read_line(const uint8_t *input, size_t length, uint64_t numbers[3])
+/* Whether the input is a line of three numbers: it is what one writes for them. */
+static bool is_line(const uint8_t *input, size_t length, const uint64_t numbers[3])
 {
-    const uint8_t *end = input + length;
-    for (unsigned place = 0; place < 3 && input != NULL; place++)
-        input = read_number(input, end, place < 2 ? ',' : '\n', &numbers[place]);
-    return input != NULL && input == end;
+    char line[64];
+    size_t written = (size_t)snprintf(line, sizeof line, "%" PRIu64 ",%" PRIu64 ",%" PRIu64 "\n", numbers[0],
+                                      numbers[1], numbers[2]);
+    return numbers[0] < NUMBER_LIMIT && numbers[1] < NUMBER_LIMIT && numbers[2] < NUMBER_LIMIT && length == written &&
+           memcmp(input, line, length) == 0;
 }
 
 /* Refusals 11, 1, 2, 3 and 12. */
 static uint32_t read_settings(const uint8_t *input, size_t length, uint64_t numbers[3], uint64_t *count)
 {
     *count = 0;
-    if (!read_line(input, length, numbers))
+    read_numbers(input, length, numbers);
+    if (!is_line(input, length, numbers))
         return REFUSED_LINE;
     uint32_t refusal = second_count(numbers[0], numbers[1], numbers[2], count);
     return refusal == ACCEPTED && *count > LISTING_LIMIT ? REFUSED_LISTING : refusal;
@@ -46,48 +52,18 @@ static uint32_t read_settings(const uint8_t *input, size_t length, uint64_t numb
 
 /* ---- The output ---- */
 
-static char *put_number(char *text, uint64_t number)
-{
-    char digits[20];
-    unsigned count = 0;
-    do {
-        digits[count++] = (char)('0' + number % 10);
-        number /= 10;
-    } while (number > 0);
-    while (count > 0)
-        *text++ = digits[--count];
-    return text;
-}
-
 static void write_line(FILE *out, uint64_t n, uint64_t k, uint64_t extended, uint64_t ferrers, const uint8_t *matrix)
 {
-    char line[LINE_ROOM], *text = put_number(line, extended);
-    *text++ = ',';
-    text = put_number(text, ferrers);
-    *text++ = ',';
-    for (uint64_t row = 0; row < k; row++) {
-        if (row > 0)
-            *text++ = '/';
-        for (uint64_t column = 0; column < n; column++)
-            *text++ = (char)('0' + *matrix++);
+    fprintf(out, "%" PRIu64 ",%" PRIu64 ",", extended, ferrers);
+    for (uint64_t place = 0; place < k * n; place++) {
+        if (place > 0 && place % n == 0)
+            fputc('/', out);
+        fputc('0' + matrix[place], out);
     }
-    *text++ = '\n';
-    fwrite(line, 1, (size_t)(text - line), out);
+    fputc('\n', out);
 }
 
-static void list_by_formulas(FILE *out, uint64_t q, uint64_t n, uint64_t k, uint64_t count)
-{
-    uint8_t matrix[MAX_LENGTH * MAX_LENGTH];
-    size_t length = (size_t)(k * n);
-    for (uint64_t index = 0; index < count; index++) {
-        uint64_t ferrers;
-        second_draw(q, n, k, EXTENDED, index, matrix, length);
-        second_number(q, n, k, FERRERS, matrix, length, &ferrers);
-        write_line(out, n, k, index, ferrers, matrix);
-    }
-}
-
-static void list_by_orders(FILE *out, uint64_t q, uint64_t n, uint64_t k, uint64_t count)
+static void list_all(FILE *out, uint64_t q, uint64_t n, uint64_t k, uint64_t count)
 {
     size_t length = (size_t)(k * n), listed = 0;
     uint8_t *extended = malloc(count * length + 1), *ferrers = malloc(count * length + 1);
@@ -105,7 +81,7 @@ static void list_by_orders(FILE *out, uint64_t q, uint64_t n, uint64_t k, uint64
     free(ferrers);
 }
 
-uint32_t second_list(const uint8_t *input, size_t length, uint32_t make, FILE *out)
+uint32_t second_list(const uint8_t *input, size_t length, FILE *out)
 {
     uint64_t numbers[3], count;
     uint32_t refusal = read_settings(input, length, numbers, &count);
@@ -114,9 +90,6 @@ uint32_t second_list(const uint8_t *input, size_t length, uint32_t make, FILE *o
         return refusal;
     }
     fputs("extended,ferrers,rows\n", out);
-    if (make == BY_ORDERS)
-        list_by_orders(out, numbers[0], numbers[1], numbers[2], count);
-    else
-        list_by_formulas(out, numbers[0], numbers[1], numbers[2], count);
+    list_all(out, numbers[0], numbers[1], numbers[2], count);
     return ACCEPTED;
 }

@@ -2,9 +2,8 @@
  * The two orders as comparisons of two matrices, and the listing of all reduced matrices. No index formula, count or
  * table stands here: an index is a place in a sorted list.
  */
-#include "second.h"
+#include "second_parts.h"
 
-#include <stdbool.h>
 #include <stdlib.h>
 #include <string.h>
 
@@ -31,26 +30,31 @@ uint32_t second_identifying_vector(uint64_t n, uint64_t k, const uint8_t *matrix
     return vector;
 }
 
-/* The rows whose pivot is to the left of column j from the right. */
-static unsigned dots(uint32_t vector, unsigned j)
+unsigned second_diagram(uint64_t n, uint64_t k, uint32_t vector, uint8_t *heights)
 {
-    unsigned count = 0;
-    for (uint32_t rest = vector >> j; rest != 0; rest &= rest - 1)
-        count++;
-    return count;
+    unsigned m = 0, pivots = 0;
+    uint64_t i = n - k;
+    for (uint64_t j = n; j > 0; j--) {
+        if (vector >> (j - 1) & 1) {
+            pivots++;
+        } else {
+            heights[--i] = (uint8_t)pivots;
+            m += pivots;
+        }
+    }
+    return m;
 }
 
 unsigned second_tableau(uint64_t n, uint64_t k, const uint8_t *matrix, uint8_t *heights, uint8_t *entries)
 {
     uint32_t vector = second_identifying_vector(n, k, matrix);
-    unsigned m = 0;
+    unsigned i = 0, m = second_diagram(n, k, vector, heights);
     for (unsigned j = 1; j <= n; j++) {
         if (vector >> (j - 1) & 1)
             continue;
-        unsigned height = dots(vector, j);
-        *heights++ = (uint8_t)height;
-        for (unsigned row = 0; row < height; row++)
-            entries[m++] = matrix[row * n + (n - j)];
+        for (unsigned row = 0; row < heights[i]; row++)
+            *entries++ = matrix[row * n + (n - j)];
+        i++;
     }
     return m;
 }
@@ -82,19 +86,29 @@ int second_extended_compare(uint64_t q, uint64_t n, uint64_t k, const uint8_t *f
     return order;
 }
 
-int second_ferrers_compare(uint64_t q, uint64_t n, uint64_t k, const uint8_t *first, const uint8_t *second)
+int second_diagram_compare(uint64_t n, uint64_t k, uint32_t first, uint32_t second)
 {
     uint8_t first_heights[MAX_LENGTH], second_heights[MAX_LENGTH];
-    uint8_t first_entries[MATRIX_LIMIT], second_entries[MATRIX_LIMIT];
-    unsigned first_size = second_tableau(n, k, first, first_heights, first_entries);
-    unsigned second_size = second_tableau(n, k, second, second_heights, second_entries);
-    (void)q;
+    unsigned first_size = second_diagram(n, k, first, first_heights);
+    unsigned second_size = second_diagram(n, k, second, second_heights);
     if (first_size != second_size)
         return first_size > second_size ? -1 : 1;
     for (unsigned i = 0; i < n - k; i++)
         if (first_heights[i] != second_heights[i])
             return first_heights[i] > second_heights[i] ? -1 : 1;
-    return memcmp(first_entries, second_entries, first_size);
+    return 0;
+}
+
+int second_ferrers_compare(uint64_t q, uint64_t n, uint64_t k, const uint8_t *first, const uint8_t *second)
+{
+    uint8_t heights[MAX_LENGTH], first_entries[MATRIX_LIMIT], second_entries[MATRIX_LIMIT];
+    int order = second_diagram_compare(n, k, second_identifying_vector(n, k, first),
+                                       second_identifying_vector(n, k, second));
+    (void)q;
+    if (order != 0)
+        return order;
+    second_tableau(n, k, first, heights, first_entries);
+    return memcmp(first_entries, second_entries, second_tableau(n, k, second, heights, second_entries));
 }
 
 int second_compare(uint64_t q, uint64_t n, uint64_t k, uint64_t numbering,
@@ -106,6 +120,25 @@ int second_compare(uint64_t q, uint64_t n, uint64_t k, uint64_t numbering,
 }
 
 /* ---- The listing ---- */
+
+uint32_t second_first_vector(uint64_t k)
+{
+    return (UINT32_C(1) << k) - 1;
+}
+
+/* The lowest block of ones loses its highest to the place above it; the others go to the right end. */
+uint32_t second_next_vector(uint64_t n, uint32_t vector)
+{
+    if (vector == 0)
+        return UINT32_C(1) << n;
+    uint32_t lowest = vector & (~vector + 1), risen = vector + lowest;
+    return risen | (vector ^ risen) / lowest >> 2;
+}
+
+bool second_is_vector(uint64_t n, uint32_t vector)
+{
+    return vector < UINT32_C(1) << n;
+}
 
 /* The places of the entries that a set of pivot columns leaves free; the pivots themselves are written. */
 static unsigned place_pivots(unsigned n, uint32_t columns, uint8_t *matrix, unsigned *places)
@@ -152,9 +185,8 @@ static size_t fill_all(uint64_t q, unsigned n, unsigned k, uint32_t columns, uin
 size_t second_enumerate(uint64_t q, uint64_t n, uint64_t k, uint8_t *out)
 {
     size_t written = 0;
-    for (uint32_t columns = 0; columns < UINT32_C(1) << n; columns++)
-        if (dots(columns, 0) == k)
-            written += fill_all(q, (unsigned)n, (unsigned)k, columns, out + written * k * n);
+    for (uint32_t pivots = second_first_vector(k); second_is_vector(n, pivots); pivots = second_next_vector(n, pivots))
+        written += fill_all(q, (unsigned)n, (unsigned)k, pivots, out + written * k * n);
     return written;
 }
 

@@ -1,6 +1,6 @@
 /*
  * What the parts of the second implementation share: its tables and inner calls. Of the tests only the self-test reads
- * it, for the tables.
+ * it, for the tables and for the sets of pivot columns.
  */
 #ifndef SECOND_PARTS_H
 #define SECOND_PARTS_H
@@ -12,25 +12,21 @@
 /* Field sizes are at most 8, diagrams have at most 8 x 8 dots. */
 enum { FIELD_LIMIT = 8, SIZE_LIMIT = 64 };
 
-/* The arithmetic of one field; difference[a][b] is a - b, and less_product[a][b][c] is c - a * b. */
+/* More than any count, index or power of q needs. */
+__extension__ typedef unsigned __int128 wide;
+
+/* The arithmetic of one field; difference[a][b] is a - b. */
 typedef struct {
     uint8_t sum[FIELD_LIMIT][FIELD_LIMIT];
     uint8_t difference[FIELD_LIMIT][FIELD_LIMIT];
     uint8_t product[FIELD_LIMIT][FIELD_LIMIT];
     uint8_t inverse[FIELD_LIMIT];
-    uint8_t less_product[FIELD_LIMIT][FIELD_LIMIT][FIELD_LIMIT];
 } second_field;
 
 /* Tables by field size q. A power or count that doesn't fit in 64 bits is 0; accepted settings read none. */
 extern second_field second_fields[FIELD_LIMIT + 1];
 extern uint64_t second_powers[FIELD_LIMIT + 1][SIZE_LIMIT + 1];
 extern uint64_t second_gaussian[FIELD_LIMIT + 1][MAX_LENGTH + 1][MAX_LENGTH + 1];
-
-/* p(k, eta, m) for k + eta up to 16. */
-extern uint32_t second_partitions[MAX_LENGTH + 1][MAX_LENGTH + 1][SIZE_LIMIT + 1];
-
-/* By q, k, eta, m: how many spaces have more than m dots, for accepted settings. */
-extern uint64_t second_tails[FIELD_LIMIT + 1][MAX_LENGTH + 1][MAX_LENGTH + 1][SIZE_LIMIT + 1];
 
 /* Refusals 1, 2, 3 and 10; the count is 0 if refused. */
 uint32_t second_setting(uint64_t q, uint64_t n, uint64_t k, uint64_t numbering, uint64_t *count);
@@ -41,8 +37,13 @@ bool second_is_field(uint64_t q);
 /* Whether all entries are below q. */
 bool second_entries_below(uint64_t q, const uint8_t *entries, size_t length);
 
-/* The index of a reduced matrix whose pivots stand in the given columns, counted from the left from 0. */
-uint64_t second_index_of(uint64_t q, unsigned n, unsigned k, uint64_t numbering,
-                         const uint8_t *matrix, const uint8_t *pivots);
+/* Steps through the numbers below 2^n with k ones: the least of them, the next, and whether one is such a number. */
+uint32_t second_first_vector(uint64_t k);
+uint32_t second_next_vector(uint64_t n, uint32_t vector);
+bool second_is_vector(uint64_t n, uint32_t vector);
+
+/* The index of a reduced matrix, and the matrix of an index below the count. */
+uint64_t second_index_of(uint64_t q, uint64_t n, uint64_t k, uint64_t numbering, const uint8_t *matrix);
+void second_search(uint64_t q, uint64_t n, uint64_t k, uint64_t numbering, uint64_t index, uint8_t *matrix);
 
 #endif

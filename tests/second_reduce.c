@@ -21,24 +21,20 @@ static void scale_row(const second_field *field, uint8_t *row, unsigned n, unsig
         row[column] = field->product[factor][row[column]];
 }
 
-/* Subtracts a multiple of the pivot's row; left of the start that row is zero. */
-static inline void subtract_row(const uint8_t (*restrict less)[FIELD_LIMIT], uint8_t *restrict row,
-                                const uint8_t *restrict pivot_row, unsigned start, unsigned n)
+/* Subtracts a multiple of the pivot's row. */
+static void subtract_row(const second_field *field, uint8_t *row, const uint8_t *pivot_row, unsigned n, unsigned factor)
 {
-    for (unsigned column = start; column < n; column++)
-        row[column] = less[pivot_row[column]][row[column]];
+    for (unsigned column = 0; column < n; column++)
+        row[column] = field->difference[row[column]][field->product[factor][pivot_row[column]]];
 }
 
 /* Clears a column outside of the pivot's row. */
 static void clear_column(const second_field *field, uint8_t *rows, unsigned n, unsigned r,
                          unsigned pivot, unsigned column)
 {
-    const uint8_t *pivot_row = rows + pivot * n;
-    for (unsigned row = 0; row < r; row++) {
-        unsigned factor = rows[row * n + column];
-        if (row != pivot && factor != 0)
-            subtract_row(field->less_product[factor], rows + row * n, pivot_row, column, n);
-    }
+    for (unsigned row = 0; row < r; row++)
+        if (row != pivot)
+            subtract_row(field, rows + row * n, rows + pivot * n, n, rows[row * n + column]);
 }
 
 /* The first row at or below the start with a nonzero entry in the column, or r. */
@@ -50,8 +46,8 @@ static unsigned find_row(const uint8_t *rows, unsigned n, unsigned r, unsigned s
     return row;
 }
 
-/* Reduces the rows in place. Answers the dimension; the reduced rows stand first, their pivots in these columns. */
-static unsigned reduce_rows(uint64_t q, unsigned n, unsigned r, uint8_t *rows, uint8_t *pivots)
+/* Reduces the rows in place. Answers the dimension; the reduced rows stand first. */
+static unsigned reduce_rows(uint64_t q, unsigned n, unsigned r, uint8_t *rows)
 {
     const second_field *field = &second_fields[q];
     unsigned rank = 0;
@@ -62,10 +58,9 @@ static unsigned reduce_rows(uint64_t q, unsigned n, unsigned r, uint8_t *rows, u
         uint8_t *pivot_row = rows + rank * n;
         if (found != rank)
             swap_rows(pivot_row, rows + found * n, n);
-        if (pivot_row[column] != 1)
-            scale_row(field, pivot_row, n, field->inverse[pivot_row[column]]);
+        scale_row(field, pivot_row, n, field->inverse[pivot_row[column]]);
         clear_column(field, rows, n, r, rank, column);
-        pivots[rank++] = (uint8_t)column;
+        rank++;
     }
     return rank;
 }
@@ -87,7 +82,7 @@ static uint32_t take_rows(uint64_t q, uint64_t n, uint64_t r, const uint8_t *row
 uint32_t second_reduce(uint64_t q, uint64_t n, uint64_t r, const uint8_t *rows, size_t rows_length,
                        uint8_t *out, size_t out_length, uint64_t *dimension)
 {
-    uint8_t work[MAX_ROWS * MAX_LENGTH], pivots[MAX_LENGTH];
+    uint8_t work[MAX_ROWS * MAX_LENGTH];
     *dimension = 0;
     if (!second_is_field(q))
         return REFUSED_FIELD;
@@ -98,7 +93,7 @@ uint32_t second_reduce(uint64_t q, uint64_t n, uint64_t r, const uint8_t *rows, 
     uint32_t refusal = take_rows(q, n, r, rows, rows_length, work);
     if (refusal != ACCEPTED)
         return refusal;
-    unsigned rank = reduce_rows(q, (unsigned)n, (unsigned)r, work, pivots);
+    unsigned rank = reduce_rows(q, (unsigned)n, (unsigned)r, work);
     memset(out, 0, out_length);
     memcpy(out, work, rank * n);
     *dimension = rank;
@@ -108,7 +103,7 @@ uint32_t second_reduce(uint64_t q, uint64_t n, uint64_t r, const uint8_t *rows, 
 uint32_t second_receive(uint64_t q, uint64_t n, uint64_t k, uint64_t numbering, uint64_t r,
                         const uint8_t *rows, size_t rows_length, uint64_t *index, uint64_t *dimension)
 {
-    uint8_t work[MAX_ROWS * MAX_LENGTH], pivots[MAX_LENGTH];
+    uint8_t work[MAX_ROWS * MAX_LENGTH];
     uint64_t count;
     *index = 0;
     *dimension = 0;
@@ -117,12 +112,12 @@ uint32_t second_receive(uint64_t q, uint64_t n, uint64_t k, uint64_t numbering, 
         refusal = take_rows(q, n, r, rows, rows_length, work);
     if (refusal != ACCEPTED)
         return refusal;
-    unsigned rank = reduce_rows(q, (unsigned)n, (unsigned)r, work, pivots);
+    unsigned rank = reduce_rows(q, (unsigned)n, (unsigned)r, work);
     *dimension = rank;
     if (rank < k)
         return REFUSED_TOO_FEW;
     if (rank > k)
         return REFUSED_TOO_MANY;
-    *index = second_index_of(q, (unsigned)n, (unsigned)k, numbering, work, pivots);
+    *index = second_index_of(q, n, k, numbering, work);
     return ACCEPTED;
 }

@@ -1,20 +1,16 @@
 /*
- * Tables of the second implementation: field arithmetic, counts by formula (1) on big numbers, partition counts as
- * the coefficients of the Gaussian coefficient's product formula; and the calls that only read them.
+ * Tables of the second implementation: field arithmetic, powers, and counts by formula (1) on big numbers; and the
+ * calls that only read them.
  */
 #include "second_parts.h"
 
 #include <assert.h>
-
-__extension__ typedef unsigned __int128 wide;
 
 const uint64_t second_field_sizes[FIELD_COUNT] = {2, 3, 5, 7};
 
 second_field second_fields[FIELD_LIMIT + 1];
 uint64_t second_powers[FIELD_LIMIT + 1][SIZE_LIMIT + 1];
 uint64_t second_gaussian[FIELD_LIMIT + 1][MAX_LENGTH + 1][MAX_LENGTH + 1];
-uint32_t second_partitions[MAX_LENGTH + 1][MAX_LENGTH + 1][SIZE_LIMIT + 1];
-uint64_t second_tails[FIELD_LIMIT + 1][MAX_LENGTH + 1][MAX_LENGTH + 1][SIZE_LIMIT + 1];
 
 /* ---- Fields ---- */
 
@@ -41,21 +37,10 @@ static void fill_pair(unsigned q, unsigned left, unsigned right)
         field->inverse[left] = (uint8_t)right;
 }
 
-/* A step of elimination as one look: c - a * b. */
-static void fill_steps(unsigned q, unsigned left, unsigned right)
-{
-    second_field *field = &second_fields[q];
-    unsigned product = field->product[left][right];
-    for (unsigned from = 0; from < q; from++)
-        field->less_product[left][right][from] = field->difference[from][product];
-}
-
 static void fill_field(unsigned q)
 {
     for (unsigned code = 0; code < q * q; code++)
         fill_pair(q, code / q, code % q);
-    for (unsigned code = 0; code < q * q; code++)
-        fill_steps(q, code / q, code % q);
 }
 
 static void fill_powers(unsigned q)
@@ -138,70 +123,15 @@ static void fill_gaussian(unsigned q)
             second_gaussian[q][n][k] = gaussian_by_product(q, n, k);
 }
 
-/* ---- Partition counts ---- */
-
-enum { DEGREE_LIMIT = SIZE_LIMIT + MAX_LENGTH };
-
-/* Multiplies a polynomial in x by 1 - x^exponent. */
-static void polynomial_multiply(int64_t *coefficients, unsigned exponent)
-{
-    for (unsigned degree = DEGREE_LIMIT; degree >= exponent; degree--)
-        coefficients[degree] -= coefficients[degree - exponent];
-}
-
-/* Divides a polynomial in x by 1 - x^exponent. */
-static void polynomial_divide(int64_t *coefficients, unsigned exponent)
-{
-    for (unsigned degree = exponent; degree <= DEGREE_LIMIT; degree++)
-        coefficients[degree] += coefficients[degree - exponent];
-}
-
-/*
- * The coefficients of the product of (1 - x^(eta+i)) / (1 - x^i), i = 1 to k, are p(k, eta, 0), p(k, eta, 1), ...
- * After each factor the polynomial is the Gaussian coefficient of eta + i and i, so that every division is exact.
- */
-static void fill_partitions(unsigned eta)
-{
-    int64_t coefficients[DEGREE_LIMIT + 1] = {1};
-    for (unsigned k = 0; k + eta <= MAX_LENGTH; k++) {
-        if (k > 0) {
-            polynomial_multiply(coefficients, eta + k);
-            polynomial_divide(coefficients, k);
-        }
-        for (unsigned m = 0; m <= k * eta; m++)
-            second_partitions[k][eta][m] = (uint32_t)coefficients[m];
-    }
-}
-
-static void fill_tail(unsigned q, unsigned k, unsigned eta)
-{
-    uint64_t more = 0;
-    for (unsigned above = k * eta + 1; above-- > 0;) {
-        second_tails[q][k][eta][above] = more;
-        more += second_partitions[k][eta][above] * second_powers[q][above];
-    }
-}
-
-static void fill_tails(unsigned q)
-{
-    for (unsigned k = 0; k <= MAX_LENGTH; k++)
-        for (unsigned eta = 0; k + eta <= MAX_LENGTH; eta++)
-            if (second_gaussian[q][k + eta][k] != 0)
-                fill_tail(q, k, eta);
-}
-
 /* ---- Calls ---- */
 
 void second_init(void)
 {
-    for (unsigned eta = 0; eta <= MAX_LENGTH; eta++)
-        fill_partitions(eta);
     for (unsigned place = 0; place < FIELD_COUNT; place++) {
         unsigned q = (unsigned)second_field_sizes[place];
         fill_field(q);
         fill_powers(q);
         fill_gaussian(q);
-        fill_tails(q);
     }
 }
 

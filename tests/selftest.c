@@ -1,20 +1,13 @@
 /*
- * Tests the second implementation against itself: the formulas against the sorted lists of all reduced matrices, the
- * tables against counting, the elimination against spans written out in full, the receiver against the counts, and the
- * figures of document 001.
+ * Tests the second implementation against itself: counting and searching against the sorted lists of all reduced
+ * matrices, formula (1) against the diagrams, the elimination against spans written out in full, the receiver against
+ * the counts, and all against the figures of document 001.
  */
 #include "cases.h"
 #include "check.h"
 #include "second_parts.h"
 
-#include <stdlib.h>
-
-__extension__ typedef unsigned __int128 wide;
-
-enum { WHOLE_LIMIT = 5000, SPAN_LIMIT = 2500 };
-
-static setting settings[SETTING_LIMIT];
-static size_t setting_count;
+enum { WHOLE_LIMIT = 1000, SPAN_LIMIT = 2500, RANDOM_ROUNDS = 3 };
 
 /* ---- Tables ---- */
 
@@ -36,43 +29,52 @@ static void field_group(uint64_t q)
     check_group_end();
 }
 
-/* p(k, eta, m) against the sizes of the diagrams of all sets of k pivot columns among k + eta. */
-static void partitions_group(void)
+/* How many spaces there are by Theorem 2: for each set of k pivot columns, the fillings of its diagram's dots. */
+static wide count_fillings(uint64_t q, unsigned n, unsigned k)
 {
-    check_group_begin("partition counts");
-    for (unsigned n = 1; n <= MAX_LENGTH; n++) {
-        static uint32_t counted[MAX_LENGTH + 1][SIZE_LIMIT + 1];
-        memset(counted, 0, sizeof counted);
-        for (uint32_t vector = 0; vector < UINT32_C(1) << n; vector++) {
-            unsigned k = 0, m = 0, others = 0;
-            for (unsigned j = 0; j < n; j++) {
-                k += vector >> j & 1;
-                others += 1 - (vector >> j & 1);
-                m += (vector >> j & 1) * others;
-            }
-            counted[k][m]++;
-        }
-        for (unsigned k = 0; k <= n; k++)
-            check(memcmp(counted[k], second_partitions[k][n - k], sizeof counted[k]) == 0, "n = %u, k = %u", n, k);
+    const wide limit = (wide)1 << 100;
+    wide count = 0;
+    for (uint32_t v = second_first_vector(k); second_is_vector(n, v); v = second_next_vector(n, v)) {
+        uint8_t heights[MAX_LENGTH];
+        wide fillings = 1;
+        for (unsigned dots = second_diagram(n, k, v, heights); dots > 0 && fillings < limit; dots--)
+            fillings *= q;
+        count += fillings;
+    }
+    return count;
+}
+
+/* Formula (1) against Theorem 2. */
+static void counts_group(unsigned field)
+{
+    check_group_begin("counts, q = %" PRIu64, second_field_sizes[field]);
+    for (unsigned place = field * 289; place < (field + 1) * 289; place++) {
+        unsigned n = place / 17 % 17, k = place % 17;
+        wide count = k <= n ? count_fillings(second_field_sizes[field], n, k) : 0;
+        uint64_t entry = count > UINT64_MAX ? 0 : (uint64_t)count;
+        check(second_table_entry(place) == entry, "n = %u, k = %u", n, k);
     }
     check_group_end();
 }
 
-/* Formula (1) against Theorem 2: the sum of p(k, n-k, m) q^m. */
-static void counts_group(unsigned field)
+/* The steps through the sets of pivot columns against all numbers below 2^n. */
+static void vectors_group(void)
 {
-    const wide limit = (wide)1 << 100;
-    check_group_begin("counts, q = %" PRIu64, second_field_sizes[field]);
-    for (unsigned place = field * 289; place < (field + 1) * 289; place++) {
-        unsigned n = place / 17 % 17, k = place % 17;
-        wide count = 0, power = 1;
-        for (unsigned m = 0; k <= n && m <= k * (n - k); m++) {
-            count += second_partitions[k][n - k][m] * power;
-            power = power < limit ? power * second_field_sizes[field] : power;
+    check_group_begin("sets of pivot columns");
+    for (unsigned n = 1; n <= MAX_LENGTH; n++)
+        for (unsigned k = 0; k <= n; k++) {
+            uint32_t due = second_first_vector(k);
+            for (uint32_t vector = 0; vector < UINT32_C(1) << n; vector++) {
+                unsigned ones = 0;
+                for (unsigned j = 0; j < n; j++)
+                    ones += vector >> j & 1;
+                if (ones != k)
+                    continue;
+                check(vector == due, "n = %u, k = %u: %" PRIu32 " instead of %" PRIu32, n, k, due, vector);
+                due = second_next_vector(n, due);
+            }
+            check(!second_is_vector(n, due), "n = %u, k = %u: no end", n, k);
         }
-        uint64_t entry = count > UINT64_MAX ? 0 : (uint64_t)count;
-        check(second_table_entry(place) == entry, "n = %u, k = %u", n, k);
-    }
     check_group_end();
 }
 
@@ -91,11 +93,11 @@ static void count_figures_group(void)
     check_group_end();
 }
 
-/* ---- Formulas against sorted lists ---- */
+/* ---- Counting and searching against sorted lists ---- */
 
 static void compare_listing(const setting *s, uint64_t numbering)
 {
-    size_t width = (size_t)(s->k * s->n);
+    size_t width = width_of(s);
     uint8_t *matrices = malloc((size_t)s->count * width + 1), drawn[MAX_LENGTH * MAX_LENGTH];
     size_t count = second_enumerate(s->q, s->n, s->k, matrices);
     check(count == s->count, SETTING_FORMAT ": %zu matrices", SETTING_VALUES(s), count);
@@ -119,30 +121,34 @@ static void compare_listing(const setting *s, uint64_t numbering)
 static void whole_group(uint64_t q, uint64_t numbering)
 {
     check_group_begin("whole settings, q = %" PRIu64 ", numbering %" PRIu64, q, numbering);
-    for (size_t number = 0; number < setting_count; number++)
+    for (size_t number = 0; number < setting_count; number += thinning)
         if (settings[number].q == q && settings[number].count <= WHOLE_LIMIT)
             compare_listing(&settings[number], numbering);
     check_group_end();
 }
 
-/* Round trips and order at random indexes of all settings. */
-static void random_group(uint64_t numbering)
+/* One index of any setting: back again, and before its neighbour in the order. */
+static void compare_index(const setting *s, uint64_t numbering, uint64_t index)
 {
     uint8_t matrix[MAX_LENGTH * MAX_LENGTH], next[MAX_LENGTH * MAX_LENGTH];
+    size_t width = width_of(s);
+    uint64_t number;
+    uint32_t refusals = second_draw(s->q, s->n, s->k, numbering, index, matrix, width) |
+                        second_number(s->q, s->n, s->k, numbering, matrix, width, &number);
+    check(refusals == ACCEPTED && number == index, SETTING_FORMAT ": %" PRIu64, SETTING_VALUES(s), index);
+    if (index + 1 == s->count)
+        return;
+    second_draw(s->q, s->n, s->k, numbering, index + 1, next, width);
+    check(second_compare(s->q, s->n, s->k, numbering, matrix, next) < 0,
+          SETTING_FORMAT ": order at %" PRIu64, SETTING_VALUES(s), index);
+}
+
+static void random_group(uint64_t numbering)
+{
     check_group_begin("all settings, numbering %" PRIu64, numbering);
-    for (unsigned round = 0; round < 100000; round++) {
-        const setting *s = &settings[round % setting_count];
-        size_t width = (size_t)(s->k * s->n);
-        uint64_t index = random_index(s->count), number;
-        uint32_t refusals = second_draw(s->q, s->n, s->k, numbering, index, matrix, width) |
-                            second_number(s->q, s->n, s->k, numbering, matrix, width, &number);
-        check(refusals == ACCEPTED && number == index, SETTING_FORMAT ": %" PRIu64, SETTING_VALUES(s), index);
-        if (index + 1 == s->count)
-            continue;
-        second_draw(s->q, s->n, s->k, numbering, index + 1, next, width);
-        check(second_compare(s->q, s->n, s->k, numbering, matrix, next) < 0,
-              SETTING_FORMAT ": order at %" PRIu64, SETTING_VALUES(s), index);
-    }
+    for (size_t number = 0; number < setting_count; number += thinning)
+        for (unsigned round = 0; round < RANDOM_ROUNDS; round++)
+            compare_index(&settings[number], numbering, random_index(settings[number].count));
     check_group_end();
 }
 
@@ -212,22 +218,24 @@ static void figures_group(void)
     check(second_tableau(7, 3, matrix, heights, entries) == 10, "Example 1, size");
     check(memcmp(heights, "\3\3\3\1", 4) == 0, "Example 1, diagram");
     check(memcmp(entries, "\0\1\1\1\0\1\1\1\0\0", 10) == 0, "Example 1, tableau");
-    compare_figure(2, 7, 3, "1000110/0010101/0001011", 5062, 6620);
     compare_figures(compare_figure);
     check_group_end();
 }
 
-/* Example 3: Y < X < Z. */
+static void compare_order(uint64_t q, uint64_t n, uint64_t k, uint64_t numbering, const char *first, const char *second)
+{
+    uint8_t one[MAX_LENGTH * MAX_LENGTH], two[MAX_LENGTH * MAX_LENGTH];
+    read_rows(first, one);
+    read_rows(second, two);
+    check(second_compare(q, n, k, numbering, one, two) < 0, "%s isn't before %s", first, second);
+    check(second_compare(q, n, k, numbering, two, one) > 0, "%s isn't after %s", second, first);
+    check(second_compare(q, n, k, numbering, one, one) == 0, "%s isn't itself", first);
+}
+
 static void order_figures_group(void)
 {
-    uint8_t x[18], y[18], z[18];
-    check_group_begin("document 001, Example 3");
-    read_rows("100010/010000/001100", x);
-    read_rows("100000/011000/000100", y);
-    read_rows("100000/010000/000010", z);
-    check(second_extended_compare(2, 6, 3, y, x) < 0 && second_extended_compare(2, 6, 3, x, y) > 0, "Y < X");
-    check(second_extended_compare(2, 6, 3, x, z) < 0 && second_extended_compare(2, 6, 3, z, x) > 0, "X < Z");
-    check(second_extended_compare(2, 6, 3, x, x) == 0 && second_ferrers_compare(2, 6, 3, x, x) == 0, "X = X");
+    check_group_begin("figures of the orders");
+    compare_orders(compare_order);
     check_group_end();
 }
 
@@ -302,14 +310,13 @@ static void table_groups(void)
         field_group(second_field_sizes[place]);
         counts_group(place);
     }
-    partitions_group();
+    vectors_group();
     count_figures_group();
 }
 
-int main(void)
+int main(int argument_count, char **arguments)
 {
-    second_init();
-    setting_count = accepted_settings(settings, UINT64_MAX);
+    cases_begin(argument_count, arguments);
     table_groups();
     for (unsigned place = 0; place < FIELD_COUNT; place++) {
         whole_group(second_field_sizes[place], EXTENDED);
