@@ -1,9 +1,9 @@
 // Flat shims for the C tests, over numbers and byte slices, for what only Rattle callers reach. No part of the product.
 pub mod receiver;
 
-use settings::Counted;
 use pandrwyg::answer::Numbered;
 use pandrwyg::answer::Reduction;
+use settings::Counted;
 
 // An answer with document 01's refusal number, index or count, and dimension.
 #[repr(C)]

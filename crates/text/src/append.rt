@@ -5,7 +5,6 @@ ghost use mathlib.Core.Bool.{_&&_};
 ghost use Prim.Native.Nat.{_+_, _-_, _≤_};
 ghost use lib.Dec.{leb};
 ghost use lib.ListN.{length, drop};
-ghost use lib.Seq.{paste};
 ghost use Rattle.text.specs.Text.{numeral};
 ghost use Rattle.text.specs.Appending.{fits, placeAfter, bufferAfter};
 
@@ -34,18 +33,6 @@ fn has_room(size: usize, at: usize, length: usize) -> bool
     length <= size - at
 }
 
-// Copies the piece to the places of the buffer from `at` on.
-fn copy(piece: &[u8], buffer: &mut [u8], at: usize)
-    requires { ⌜ at + length (now piece) ≤ length (now buffer) ⌝ }
-    ensures { λ _. ⌜ now (buffer .exit) ≡ paste (now (buffer .entry)) at (now (piece .entry)) (length (now (piece .entry))) ⌝ }
-{
-    let mut j = 0;
-    while j < piece.len() {
-        buffer[at + j] = piece[j];
-        j += 1;
-    }
-}
-
 // Puts a piece in at the place `at`.
 pub fn append(buffer: &mut [u8], at: usize, piece: &[u8]) -> Put
     ensures { λ r. ⌜ (r .at ≡ placeAfter (length (now (buffer .entry))) at (now (piece .entry)))
@@ -53,7 +40,7 @@ pub fn append(buffer: &mut [u8], at: usize, piece: &[u8]) -> Put
         × (now (buffer .exit) ≡ bufferAfter (now (buffer .entry)) at (now (piece .entry))) ⌝ }
 {
     if has_room(buffer.len(), at, piece.len()) {
-        copy(piece, buffer, at);
+        basics::copy(piece, buffer, at);
         return Put {
             at: at + piece.len(),
             fits: true,

@@ -1,6 +1,6 @@
 // Runs document 01's bench examples that are not proved, and prints a line for each; the file stdout holds what they must be.
-use settings::Counted;
 use libc::STDOUT_FILENO;
+use settings::Counted;
 
 fn print(n: u64) {
     io::print_decimal(STDOUT_FILENO, n);

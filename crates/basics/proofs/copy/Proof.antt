@@ -1,12 +1,12 @@
--- `reduction::copy` meets its contract: the first j bytes of the source are in their places.
+-- `basics::copy` meets its contract: the first j bytes of the source are in their places.
 use mathlib.Core.Path.{_≡_, ap, _∙_}
 use Prim.Native.Nat.{_+_, _-_, _≤_}
 use native.Mathlib.Numerals.{add-one}
 use native.Mathlib.Omega.{arith}
 use lib.ListN.{length, getD, set, length-set}
 use lib.Seq.{paste, paste-zero, paste-suc}
-use Rattle.reduction.proofs.copy.Statement.{statement}
-use Rattle.reduction.proofs.copy.Tie as tie
+use Rattle.basics.proofs.copy.Statement.{statement}
+use Rattle.basics.proofs.copy.Tie as tie
 
 abbrev Inv-loop : tie.InvT-loop
 Inv-loop source target₀ start j₀ target j = (j ≤ length source) × (length target ≡ length target₀) × (target ≡ paste target₀ start source j)
