@@ -18,13 +18,14 @@ use borrow.Author.Tests.{eqb-true}
 use lib.Dec.{eqb}
 use lib.ListN.{length, take, length-append}
 use Rattle.counts.specs.Gaussian.{gaussian}
-use Rattle.settings_line.specs.SettingsLine.{parsed}
-use Rattle.settings_line.specs.Exactly.{parsed-bounded}
+use Rattle.settings_line.specs.SettingsLine.{decisive, parsed}
+use Rattle.settings_line.specs.Theorems.{parsed-bounded}
 use Rattle.settings_line.specs.declared.Parsed.{Parsed}
 use Rattle.settings_line.specs.declared.Parsed.the-variants.{Settings as settings, Malformed}
-use Rattle.listing.specs.Listing.{listRefusal, linesFrom, header, refusedLine, outputFor, listingOutput}
-use Rattle.listing.specs.ListingLaws.{listable, lines-append, line-nonempty}
-use Rattle.listing.specs.StepsLaws.{countOf, live-is, end-within, remaining-live, remaining-dead, remaining-from, chunk-live, chunk-dead, next-live, next-dead, past-dead}
+use Rattle.listing.specs.Listing.{listRefusal, linesFrom, fieldNames, header, refusedWord, refusedLine, outputFor, listingOutput}
+use Rattle.listing.specs.laws.Listing.{listable, lines-append}
+use Rattle.listing.specs.laws.Line.{line-short, line-nonempty}
+use Rattle.listing.specs.laws.Steps.{countOf, live-is, end-within, remaining-live, remaining-dead, remaining-from, chunk-live, chunk-dead, next-live, next-dead, past-dead}
 use Rattle.listing.specs.Steps.{live, linesEnd, progressTo, started, remainingLines, remaining, begunFor, begun, linesChunk, chunkOf, linesNext, nextState, stateAfter, chunks}
 use Rattle.listing.specs.declared.Progress.{Progress}
 use Rattle.listing.specs.declared.State.{State}
@@ -54,17 +55,17 @@ begun-remaining input = output-for (parsed input)
 lines-remaining : (p : Progress) (b : Bool) → live p ≡ b → linesChunk p ++ remaining (linesNext p) ≡ remainingLines p
 lines-remaining p false e = rw (chunk-dead p e, next-dead p e, remaining-dead p e)
 lines-remaining p true e =
-    let end = linesEnd (countOf p) (p .index) in
+    let end = linesEnd (countOf p) (p .index .0) in
     let known = live-is p e in
-    let within = end-within (countOf p) (p .index) (known .1) in
+    let within = end-within (countOf p) (p .index .0) (known .1) in
     let lines = linesFrom (p .q) (p .n) (p .k) in
-    let place : p .index + (end - p .index) ≡ end = omega arith in
-    let size : (end - p .index) + (countOf p - end) ≡ countOf p - p .index = omega arith in
+    let place : p .index .0 + (end - p .index .0) ≡ end = omega arith in
+    let size : (end - p .index .0) + (countOf p - end) ≡ countOf p - p .index .0 = omega arith in
     ap₂ (λ c s. c ++ remaining s) (chunk-live p e) (next-live p e)
-    ∙ ap (λ t. lines (p .index) (end - p .index) ++ t)
+    ∙ ap (λ t. lines (p .index .0) (end - p .index .0) ++ t)
     (remaining-from (progressTo p end) (known .0) ∙ ap (λ j. lines j (countOf p - end)) (sym place))
-    ∙ sym (lines-append (p .q) (p .n) (p .k) (p .index) (end - p .index) (countOf p - end))
-    ∙ ap (lines (p .index)) size
+    ∙ sym (lines-append (p .q) (p .n) (p .k) (p .index .0) (end - p .index .0) (countOf p - end))
+    ∙ ap (lines (p .index .0)) size
     ∙ sym (remaining-live p e)
 
 pub chunk-remaining : (s : State) → chunkOf s ++ remaining (nextState s) ≡ remaining s
@@ -81,13 +82,13 @@ some-lines q n k i (suc m) h z = omega (arith, line-nonempty q n k i, simp lengt
 lines-empty : (p : Progress) (b : Bool) → live p ≡ b → length (linesChunk p) ≡ 0 → (remainingLines p ≡ []) × (linesNext p ≡ Done)
 lines-empty p false e z = (remaining-dead p e, next-dead p e)
 lines-empty p true e z =
-    let within = end-within (countOf p) (p .index) (live-is p e .1) in
+    let within = end-within (countOf p) (p .index .0) (live-is p e .1) in
     absurd
-    (some-lines (p .q) (p .n) (p .k) (p .index) (linesEnd (countOf p) (p .index) - p .index) (omega arith)
+    (some-lines (p .q) (p .n) (p .k) (p .index .0) (linesEnd (countOf p) (p .index .0) - p .index .0) (omega arith)
     (sym (ap length (chunk-live p e)) ∙ z))
 
 pub chunk-empty : (s : State) → length (chunkOf s) ≡ 0 → (remaining s ≡ []) × (nextState s ≡ Done)
-unfolding header refusedLine
+unfolding fieldNames header refusedWord refusedLine
 chunk-empty (Header x) z = absurd (omega arith)
 chunk-empty (Lines p) z = lines-empty p (live p) refl z
 chunk-empty (Refused r) z = let size = simp length-append at z in absurd (omega arith)
@@ -103,16 +104,16 @@ unfolding stateAfter
 after-step m s = refl
 
 -- m chunks of 64 lines are enough for what is left
-after-lines : (m : ℕ) (p : Progress) → countOf p - p .index ≤ m * 64 → stateAfter (suc m) (Lines p) ≡ Done
+after-lines : (m : ℕ) (p : Progress) → countOf p - p .index .0 ≤ m * 64 → stateAfter (suc m) (Lines p) ≡ Done
 after-lines zero p h = after-step 0 (Lines p) ∙ ap (stateAfter 0) (next-dead p (past-dead p (omega arith))) ∙ after-done 0
 after-lines (suc m) p h = after-step (suc m) (Lines p) ∙ cases (live p) refl (λ p g. after-lines m p g)
   where
-    cases : (b : Bool) → live p ≡ b → ((r : Progress) → countOf r - r .index ≤ m * 64 → stateAfter (suc m) (Lines r) ≡ Done)
+    cases : (b : Bool) → live p ≡ b → ((r : Progress) → countOf r - r .index .0 ≤ m * 64 → stateAfter (suc m) (Lines r) ≡ Done)
         → stateAfter (suc m) (linesNext p) ≡ Done
     cases false e ih = ap (stateAfter (suc m)) (next-dead p e) ∙ after-done (suc m)
     cases true e ih =
-        let within = end-within (countOf p) (p .index) (live-is p e .1) in
-        ap (stateAfter (suc m)) (next-live p e) ∙ ih (progressTo p (linesEnd (countOf p) (p .index))) (omega arith)
+        let within = end-within (countOf p) (p .index .0) (live-is p e .1) in
+        ap (stateAfter (suc m)) (next-live p e) ∙ ih (progressTo p (linesEnd (countOf p) (p .index .0))) (omega arith)
 
 after-any : (m : ℕ) (p : Progress) (b : Bool) → live p ≡ b → 1024 ≤ m → stateAfter (suc m) (Lines p) ≡ Done
 after-any m p true e h = after-lines m p (omega (arith, listable (p .q) (p .n) (p .k) (live-is p e .0) .few))
@@ -157,9 +158,9 @@ after-further total steps begin s e some within =
     ap nextState e ∙ sym (after-next (total - steps) begin) ∙ ap (λ m. stateAfter m begin) count
 
 -- the program reads at most 13 bytes of its input
-pub output-bounded : (input : List ℕ) → listingOutput (take 13 input) ≡ listingOutput input
+pub output-bounded : (input : List ℕ) → listingOutput (take decisive input) ≡ listingOutput input
 unfolding listingOutput
 output-bounded input = ap outputFor (parsed-bounded input)
 
-pub program-writes-the-output : (input : List ℕ) → chunks 1026 (begun (take 13 input)) ≡ listingOutput input
-program-writes-the-output input = chunks-are-the-output (take 13 input) ∙ output-bounded input
+pub program-writes-the-output : (input : List ℕ) → chunks 1026 (begun (take decisive input)) ≡ listingOutput input
+program-writes-the-output input = chunks-are-the-output (take decisive input) ∙ output-bounded input

@@ -2,8 +2,9 @@
 -- line feed with nothing after it".
 --   settingsLine q n k  == that line
 --   IsSettingsLine s x  == the text s is that line of the settings x, three numbers below 1000
---   parsed s            == what the text s is found to be; `parsed-exactly` of Exactly: the settings of which s is the line, and Malformed
+--   parsed s            == what the text s is found to be; `parsed-exactly` of Theorems: the settings of which s is the line, and Malformed
 --                          where there are none such
+--   decisive            == 13: so many bytes of a text decide what it is, one more than the longest settings line has
 -- Assumes nothing.
 use mathlib.Core.Path.{_≡_}
 use mathlib.Core.List.{List, [], _∷_, _++_}
@@ -19,6 +20,9 @@ use Rattle.settings_line.specs.declared.decimal.Decimal.the-variants.{Nu
 use Rattle.settings_line.specs.declared.Settings.{Settings}
 use Rattle.settings_line.specs.declared.Parsed.{Parsed}
 use Rattle.settings_line.specs.declared.Parsed.the-variants.{Settings as settings, Malformed}
+
+abbrev pub decisive : ℕ
+decisive = 13
 
 unfoldable pub settingsLine : ℕ → ℕ → ℕ → List ℕ
 settingsLine q n k = numeral q ++ (comma ∷ numeral n ++ (comma ∷ numeral k ++ (lineFeed ∷ [])))

@@ -8,6 +8,9 @@ use decimal::Decimal;
 // Document 01: "three decimal numbers of 1 to 3 digits".
 const MOST_DIGITS: usize = 3;
 
+// So many bytes of a text decide whether it is a settings line: one more than the longest has.
+pub const DECISIVE: usize = 13;
+
 // The settings, as they were read.
 pub struct Settings {
     pub q: u64,

@@ -2,7 +2,7 @@
 use mathlib.Core.Path.{_≡_, _∙_, ap, sym}
 use Rattle.settings_line.specs.SettingsLine.{parsed}
 use Rattle.settings_line.specs.declared.Parsed.the-variants.{Settings as settings}
-use Rattle.listing.specs.StepsLaws.{begun-malformed, begun-refused, begun-header}
+use Rattle.listing.specs.laws.Steps.{begun-malformed, begun-refused, begun-header}
 use Rattle.listing.specs.declared.State.the-variants.{Refused}
 use borrow.Author.Needs.{needs}
 use Rattle.listing.proofs.begin.Statement.{statement}

@@ -4,7 +4,7 @@ use native.Mathlib.Omega.{arith}
 use Rattle.counts.specs.Gaussian.{gaussian}
 use Rattle.settings.specs.Settings.{settingsRefusal, Accepted}
 use Rattle.settings.specs.SettingsLaws.{accepted, entry-of-accepted}
-use Rattle.listing.specs.ListingLaws.{list-settings, list-large, list-none}
+use Rattle.listing.specs.laws.Listing.{list-settings, list-large, list-none}
 use borrow.Author.Needs.{needs}
 use Rattle.listing.proofs.list_refusal.Statement.{statement}
 use Rattle.listing.proofs.list_refusal.Tie as tie

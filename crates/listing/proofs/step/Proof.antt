@@ -2,7 +2,7 @@
 use mathlib.Core.Path.{_∙_, ap, sym}
 use lib.ListN.{length}
 use Rattle.listing.specs.Steps.{chunkOf, nextState}
-use Rattle.listing.specs.Pieces.{written}
+use Rattle.listing.specs.Front.{written}
 use borrow.Author.Needs.{needs}
 use Rattle.listing.proofs.step.Statement.{statement}
 use Rattle.listing.proofs.step.Tie as tie

@@ -2,7 +2,7 @@
 use mathlib.Core.Path.{_≡_, _∙_, sym}
 use Rattle.text.specs.Text.{comma, lineFeed}
 use Rattle.settings_line.specs.Decimal.{fieldAt}
-use Rattle.settings_line.specs.ParseLaws.{parsed-first, parsed-second, parsed-third, parsed-more, parsed-settings}
+use Rattle.settings_line.specs.laws.Parse.{parsed-first, parsed-second, parsed-third, parsed-more, parsed-settings}
 use Rattle.settings_line.specs.declared.decimal.Decimal.the-variants.{Number}
 use borrow.Author.Needs.{needs}
 use Rattle.settings_line.proofs.parse.Statement.{statement}

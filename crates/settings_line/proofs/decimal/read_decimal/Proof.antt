@@ -1,7 +1,7 @@
 -- `settings_line::decimal::read_decimal` meets its contract: the tests of the digits that were read, by their number and the first of them.
 use mathlib.Core.Path.{_≡_, _∙_, sym}
 use Rattle.settings_line.specs.Decimal.{readAt}
-use Rattle.settings_line.specs.DecimalLaws.{decimal-unread, decimal-inside, decimal-empty, decimal-long, decimal-single, decimal-zero-led, decimal-led}
+use Rattle.settings_line.specs.laws.Decimal.{decimal-unread, decimal-inside, decimal-empty, decimal-long, decimal-single, decimal-zero-led, decimal-led}
 use Rattle.settings_line.specs.declared.decimal.Decimal.the-variants.{Number}
 use borrow.Author.Needs.{needs}
 use Rattle.settings_line.proofs.decimal.read_decimal.Statement.{statement}

@@ -8,7 +8,7 @@ use borrow.Author.Needs.{needs}
 use borrow.Author.Tests.{not-true, not-false}
 use lib.ListN.{length, getD}
 use Rattle.settings_line.specs.Decimal.{isDigit}
-use Rattle.settings_line.specs.Reading.{digit-bounds, run-end, run-stop, Running, running-start, running-more, running-done, running-over}
+use Rattle.settings_line.specs.laws.ReadDigits.{digit-bounds, run-end, run-stop, Running, running-start, running-more, running-done, running-over}
 use Rattle.settings_line.proofs.decimal.read_digits.Statement.{statement}
 use Rattle.settings_line.proofs.decimal.read_digits.Tie as tie
 

@@ -1,7 +1,7 @@
 -- `settings_line::decimal::read_field` meets its contract: the byte behind the number that was read.
 use mathlib.Core.Path.{_≡_, _∙_, sym}
 use Rattle.settings_line.specs.Decimal.{decimalAt}
-use Rattle.settings_line.specs.DecimalLaws.{field-unread, field-open, field-other, field-marked}
+use Rattle.settings_line.specs.laws.Decimal.{field-unread, field-open, field-other, field-marked}
 use Rattle.settings_line.specs.declared.decimal.Decimal.the-variants.{Number}
 use borrow.Author.Needs.{needs}
 use Rattle.settings_line.proofs.decimal.read_field.Statement.{statement}

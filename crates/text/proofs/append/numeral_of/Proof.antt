@@ -5,7 +5,7 @@ use Prim.Native.Nat.{_^_, _/_, _%_, _≤_, _<_}
 use native.Mathlib.Omega.{arith}
 use lib.ListN.{length, drop, length-set}
 use Rattle.text.specs.Text.{glyph, numeral}
-use Rattle.text.specs.TextLaws.{numeral-digit, numeral-step, two-digits, below-before, digit-put}
+use Rattle.text.specs.laws.Numeral.{numeral-digit, numeral-step, two-digits, below-before, digit-put}
 use Rattle.text.proofs.append.numeral_of.Statement.{statement}
 use Rattle.text.proofs.append.numeral_of.Tie as tie
 
