@@ -25,10 +25,10 @@ use Rattle.pandrwyg.specs.Calls.{choiceRefusal, drawRefusal, drawBuffer, number
 use Rattle.pandrwyg.specs.Reception.{reduceRefusal, reduceOf, reduceBuffer, receiveRefusal, spaceAnswer, receiveOf, bytesOf, exportedRefusal, exportedOf, exportedBytes}
 use Rattle.text.specs.Text.{numeralWithin, numeral}
 use Rattle.text.specs.Rows.{rowText, rowsText}
-use Rattle.text.specs.Line.{lineWith}
+use Rattle.listing.specs.Line.{lineText}
 use Rattle.settings_line.specs.Decimal.{isDigit, digitRun, reading, isNumeral, decimalAt, fieldAt}
 use Rattle.settings_line.specs.SettingsLine.{parsed}
-use Rattle.listing.specs.Listing.{listRefusal, listingLine, linesFrom, header, listingOutput}
+use Rattle.listing.specs.Listing.{listRefusal, listingLine, linesFrom, fieldNames, header, listingOutput}
 use Rattle.basics.specs.All.{allBelow}
 use Rattle.basics.specs.Sum.{sum, sumRange, value}
 use Rattle.basics.specs.Table.{tabulate}
@@ -51,5 +51,5 @@ each [] same = none
 each (e ∷ es) same = more (ap (λ l. getD l 0 []) same) (each es (ap (drop 1) same))
 
 pub examples-hold : All Holds examples
-unfolding listingOutput header linesFrom listingLine listRefusal parsed fieldAt decimalAt digitRun isDigit reading isNumeral lineWith numeral numeralWithin rowsText rowText gaussian rowLengthOk shapeOk countOk settingsRefusal countOf isFieldSize add multiply negate inverseFrom invert leadFrom lead pivotAt identifying columnValue entriesBelow columnAlone rowReduced isReduced topValue cell flatten ones extendedTermAt extendedTerm extendedIndex extendedColumn extendedBefore extendedRank extendedShape drawnExtended partitionsRow partitions freeFrom freeColumns dots diagram total size dottedFrom tableauOf tableau tableauValue diagramTerm diagramPlace largerDiagrams ferrersIndex shapeSize boxCount shapePlace shapeTableau ferrersRank diagramShape sizedShape ferrersShape drawnFerrers leadOf eliminate residue monic place insertResidue insertRow insertRows reducedRows join reducedOf dimension combinationAt combination InSpan SameSpan rowsOf HasDimension isNumbering indexOf drawn before choiceRefusal drawRefusal drawBuffer numberRefusal numbered numberOf convertRefusal convertOf reduceRefusal reduceOf reduceBuffer receiveRefusal spaceAnswer receiveOf bytesOf exportedRefusal exportedOf exportedBytes allBelow sum sumRange value tabulate padded
+unfolding listingOutput fieldNames header linesFrom listingLine listRefusal parsed fieldAt decimalAt digitRun isDigit reading isNumeral lineText numeral numeralWithin rowsText rowText gaussian rowLengthOk shapeOk countOk settingsRefusal countOf isFieldSize add multiply negate inverseFrom invert leadFrom lead pivotAt identifying columnValue entriesBelow columnAlone rowReduced isReduced topValue cell flatten ones extendedTermAt extendedTerm extendedIndex extendedColumn extendedBefore extendedRank extendedShape drawnExtended partitionsRow partitions freeFrom freeColumns dots diagram total size dottedFrom tableauOf tableau tableauValue diagramTerm diagramPlace largerDiagrams ferrersIndex shapeSize boxCount shapePlace shapeTableau ferrersRank diagramShape sizedShape ferrersShape drawnFerrers leadOf eliminate residue monic place insertResidue insertRow insertRows reducedRows join reducedOf dimension combinationAt combination InSpan SameSpan rowsOf HasDimension isNumbering indexOf drawn before choiceRefusal drawRefusal drawBuffer numberRefusal numbered numberOf convertRefusal convertOf reduceRefusal reduceOf reduceBuffer receiveRefusal spaceAnswer receiveOf bytesOf exportedRefusal exportedOf exportedBytes allBelow sum sumRange value tabulate padded
 examples-hold = each examples refl
