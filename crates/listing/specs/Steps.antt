@@ -1,6 +1,7 @@
 -- The listing written chunk by chunk: a state, what is still to be written in it, and one step. The settings in a state are tested anew at
 -- each step, so that a state which no step made does no harm: of settings that are refused no line is left.
 --   chunkLines, chunkSize == a chunk has at most 64 lines, and room for them: 320 bytes for each
+--   mostSteps       == 1,026: the header, 1,024 chunks of lines, and the empty chunk that ends the listing
 --   live p          == the settings of p are not refused, and its index is below their count
 --   linesEnd N i    == the index up to which the next chunk lists: 64 lines further than i, or all
 --   remaining s     == all that is still to be written in the state s; remainingLines p, among the lines
@@ -30,6 +31,9 @@ chunkLines = 64
 
 abbrev pub chunkSize : ℕ
 chunkSize = 20480
+
+abbrev pub mostSteps : ℕ
+mostSteps = 1026
 
 unfoldable pub live : Progress → Bool
 live p = eqb (listRefusal (p .q) (p .n) (p .k)) 0 && ltb (p .index .0) (gaussian (p .q) (p .n) (p .k))

@@ -36,6 +36,9 @@ const CHUNK_LINES: u64 = 64;
 
 pub const CHUNK_SIZE: usize = 20480;
 
+// So many steps end every listing: the header, 1,024 chunks of lines, and the empty chunk that ends it.
+pub const MOST_STEPS: u64 = 1026;
+
 // The first of the refusals 1, 2, 3, 12 that applies to the settings; 0 where none does.
 pub fn list_refusal(q: u64, n: u64, k: u64) -> u32
     ensures { λ r. ⌜ r ≡ listRefusal q n k ⌝ }

@@ -5,12 +5,14 @@
 --   remaining-from   == where the settings are not refused, the lines from the index on are left
 --   chunk-live, chunk-dead, next-live, next-dead == a step among the lines
 --   dead-step, live-step == what it answers and leaves
+--   after-none, after-further == the state after no step, and after one step more
 -- Assumes nothing.
 use mathlib.Core.Path.{_≡_, refl, ap, _∙_, sym}
 use mathlib.Core.Bool.{Bool, true, false, _&&_}
 use mathlib.Core.Logic.{⊎-elim}
 use mathlib.Core.List.{List, []}
-use Prim.Native.Nat.{ℕ, _+_, _-_, _≤_, _<_}
+use Prim.Native.Nat.{ℕ, zero, suc, _+_, _-_, _≤_, _<_}
+use native.Mathlib.Numerals.{add-one}
 use native.Mathlib.Omega.{arith}
 use borrow.Author.Tests.{eq-eqb, ne-eqb, eqb-true, ltb-true, lt-ltb, le-ltb}
 use lib.Dec.{eqb, ltb}
@@ -22,9 +24,10 @@ use Rattle.settings_line.specs.SettingsLine.{parsed}
 use Rattle.settings_line.specs.declared.Settings.{Settings}
 use Rattle.settings_line.specs.declared.Parsed.the-variants.{Settings as settings, Malformed}
 use Rattle.listing.specs.Listing.{listRefusal, linesFrom}
-use Rattle.listing.specs.Steps.{live, linesEnd, progressTo, remainingLines, begunFor, begun, linesChunk, linesNext}
+use Rattle.listing.specs.Steps.{live, linesEnd, progressTo, remainingLines, begunFor, begun, linesChunk, linesNext, nextState, stateAfter}
 use Rattle.listing.specs.Front.{written}
 use Rattle.listing.specs.declared.Progress.{Progress}
+use Rattle.listing.specs.declared.State.{State}
 use Rattle.listing.specs.declared.State.the-variants.{Header, Lines, Refused, Done}
 
 abbrev pub countOf : Progress → ℕ
@@ -138,3 +141,15 @@ live-step p chunk to size after e t s a =
     let lines : linesFrom (p .q) (p .n) (p .k) (p .index .0) (to - p .index .0) ≡ linesChunk p =
     ap (λ u. linesFrom (p .q) (p .n) (p .k) (p .index .0) (u - p .index .0)) t ∙ sym (chunk-live p e) in
     (ap (λ u. Lines (progressTo p u)) t ∙ sym (next-live p e), s ∙ ap length lines, a ∙ ap (λ u. written u chunk) lines)
+
+pub after-none : (s : State) → s ≡ stateAfter 0 s
+unfolding stateAfter
+after-none s = refl
+
+after-next : (m : ℕ) (s : State) → stateAfter (suc m) s ≡ nextState (stateAfter m s)
+unfolding stateAfter
+after-next zero s = refl
+after-next (suc m) s = after-next m (nextState s)
+
+pub after-further : (m : ℕ) (begin s : State) → s ≡ stateAfter m begin → nextState s ≡ stateAfter (m + 1) begin
+after-further m begin s e = rw add-one (ap nextState e ∙ sym (after-next m begin))
