@@ -1,5 +1,6 @@
-// The list program: reads the settings line, and writes the listing or the refusal. Of the input only the first bytes are read, which decide
-// whether it is a settings line. A read that fails is the input's end. A write that fails ends the program, which says so on standard error.
+// The list program: reads the settings line, and writes the listing or the refusal. Of the input only the first bytes are read, which
+// decide whether it is a settings line. A read that fails is the input's end. A write that fails ends the program, which says so on
+// standard error.
 ghost use mathlib.Core.Path.{_≡_};
 ghost use mathlib.Core.Bool.{true};
 ghost use Rattle.listing.specs.declared.State.the-variants.{Done};

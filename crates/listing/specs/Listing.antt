@@ -1,6 +1,6 @@
--- What the list program writes. Document 01: "List, the program: 11 if the input isn't one line `q,n,k` ..; 1, 2, 3; 12 if N exceeds 65,536.
--- A refusal prints one line, `refused,` and the number, ended by a line feed." "Fields: extended index, Ferrers index, rows as digits with `/`
--- between rows. Lines rise by extended index."
+-- What the list program writes. Document 01: "List, the program: 11 if the input isn't one line `q,n,k` ..; 1, 2, 3; 12 if N exceeds
+-- 65,536. A refusal prints one line, `refused,` and the number, ended by a line feed." "Fields: extended index, Ferrers index, rows as
+-- digits with `/` between rows. Lines rise by extended index."
 --   greatestListing        == 65,536
 --   listRefusal q n k      == the first of 1, 2, 3, 12 that applies, else 0
 --   listingLine q n k i    == the line of the space with the extended index i

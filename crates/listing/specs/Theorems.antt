@@ -26,11 +26,14 @@ use Rattle.settings_line.specs.declared.Parsed.the-variants.{Settings as settin
 use Rattle.text.specs.Piece.{fits}
 use Rattle.text.specs.Theorems.{piece-fits}
 use Rattle.listing.specs.Line.{lineRoom, longestLine}
-use Rattle.listing.specs.Listing.{listRefusal, listingLine, linesFrom, fieldNames, header, refusedWord, refusedLine, outputFor, listingOutput}
+use Rattle.listing.specs.Listing.{listRefusal, listingLine, linesFrom, fieldNames, header, refusedWord, refusedLine, outputFor}
+use Rattle.listing.specs.Listing.{listingOutput}
 use Rattle.listing.specs.laws.Listing.{listable, lines-append}
 use Rattle.listing.specs.laws.Line.{line-short, line-nonempty}
-use Rattle.listing.specs.laws.Steps.{countOf, live-is, end-within, remaining-live, remaining-dead, remaining-from, chunk-live, chunk-dead, next-live, next-dead, past-dead}
-use Rattle.listing.specs.Steps.{mostSteps, live, linesEnd, progressTo, started, remainingLines, remaining, begunFor, begun, linesChunk, chunkOf, linesNext, nextState, stateAfter, chunks}
+use Rattle.listing.specs.laws.Steps.{countOf, live-is, end-within, remaining-live, remaining-dead, remaining-from, chunk-live}
+use Rattle.listing.specs.laws.Steps.{chunk-dead, next-live, next-dead, past-dead}
+use Rattle.listing.specs.Steps.{mostSteps, live, linesEnd, progressTo, started, remainingLines, remaining, begunFor, begun}
+use Rattle.listing.specs.Steps.{linesChunk, chunkOf, linesNext, nextState, stateAfter, chunks}
 use Rattle.listing.specs.declared.Progress.{Progress}
 use Rattle.listing.specs.declared.State.{State}
 use Rattle.listing.specs.declared.State.the-variants.{Header, Lines, Refused, Done}

@@ -5,6 +5,7 @@ ghost use Rattle.text.specs.Text.{comma, lineFeed, numeral};
 ghost use Rattle.text.specs.Piece.{Composed};
 ghost use Rattle.text.specs.Rows.{DigitRows, rowsText};
 ghost use Rattle.text.specs.Word.{letters};
+ghost use Rattle.listing.specs.Line.{linePieces};
 use extended::ExtendedIndex;
 use ferrers::FerrersIndex;
 use text::rows::Rows;
@@ -20,7 +21,7 @@ pub(crate) fn put_space(
 ) -> usize
     requires { ⌜ DigitRows (rows .n) (rows .k) (rows .entries) ⌝ }
     ensures { λ size. ⌜ Composed (now (buffer .entry))
-        (numeral (extended .0) ∷ (comma ∷ []) ∷ numeral (ferrers .0) ∷ (comma ∷ []) ∷ rowsText (rows .n) (rows .k) (rows .entries) ∷ (lineFeed ∷ []) ∷ [])
+        (linePieces (extended .0) (ferrers .0) (rowsText (rows .n) (rows .k) (rows .entries)))
         size (now (buffer .exit)) ⌝ }
 {
     let mut w = writer::new(buffer);
@@ -45,7 +46,8 @@ pub(crate) fn put_header(buffer: &mut [u8], names: Word) -> usize
 
 // Puts the line of a refusal together: the word, and the number.
 pub(crate) fn put_refused(buffer: &mut [u8], word: Word, number: u64) -> usize
-    ensures { λ size. ⌜ Composed (now (buffer .entry)) (letters word ∷ (comma ∷ []) ∷ numeral number ∷ (lineFeed ∷ []) ∷ []) size (now (buffer .exit)) ⌝ }
+    ensures { λ size. ⌜ Composed (now (buffer .entry)) (letters word ∷ (comma ∷ []) ∷ numeral number ∷ (lineFeed ∷ []) ∷ [])
+        size (now (buffer .exit)) ⌝ }
 {
     let mut w = writer::new(buffer);
     writer::word(&mut w, word);

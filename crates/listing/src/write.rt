@@ -67,7 +67,8 @@ pub(crate) fn write_lines(
     from: ExtendedIndex,
     to: ExtendedIndex,
 ) -> usize
-    requires { ⌜ Listable q n k × (from .0 ≤ to .0) × (to .0 ≤ gaussian q n k) × (to .0 - from .0 ≤ chunkLines) × (chunkSize ≤ length (now buffer)) ⌝ }
+    requires { ⌜ Listable q n k × (from .0 ≤ to .0) × (to .0 ≤ gaussian q n k) × (to .0 - from .0 ≤ chunkLines)
+        × (chunkSize ≤ length (now buffer)) ⌝ }
     ensures { λ r. ⌜ (r ≡ length (linesFrom q n k (from .0) (to .0 - from .0)))
         × (now (buffer .exit) ≡ written (linesFrom q n k (from .0) (to .0 - from .0)) (now (buffer .entry))) ⌝ }
 {

@@ -77,7 +77,8 @@ unfolding settingsLine isDigit
 line-parsed s x l =
     let rest = numeral (x .n) ++ (comma ∷ numeral (x .k) ++ (lineFeed ∷ [])) in
     let q = field-reads s 0 2 comma (x .q) rest refl (l .line) (l .q-short) (omega (arith, l .q-short)) in
-    let n = field-reads s (q .end) 2 comma (x .n) (numeral (x .k) ++ (lineFeed ∷ [])) refl (q .ahead) (l .n-short) (omega (arith, l .n-short)) in
+    let n = field-reads s (q .end) 2 comma (x .n) (numeral (x .k) ++ (lineFeed ∷ [])) refl (q .ahead) (l .n-short)
+    (omega (arith, l .n-short)) in
     let k = field-reads s (n .end) 2 lineFeed (x .k) [] refl (n .ahead) (l .k-short) (omega (arith, l .k-short)) in
     parsed-settings s _ (q .read) _ (n .read) _ (k .read) (last-end s (n .end) 3 lineFeed (x .k) k)
 

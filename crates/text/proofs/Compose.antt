@@ -21,7 +21,8 @@ use prog.Routine.{Routine}
 use prog.Wp.{Heap, Env, Calls, Loops}
 use ghost.Atoms.{Atoms, sem}
 use contract.Monad.{Fun, fact}
-use types.Kit.{Given, Item, Post, Seq, runs, lands, ‵, raw, given, some, later, _⊛_, _$_, _∵_, !, qed, move, drop, use1, use2, split, join, pick, learn}
+use types.Kit.{Given, Item, Post, Seq, runs, lands, ‵, raw, given, some, later, _⊛_, _$_, _∵_, !, qed, move, drop, use1, use2, split, join}
+use types.Kit.{pick, learn}
 use types.Kit.{rewrite, fsplit, fjoin, frame, await, done}
 use types.Run.{Opds}
 use sound.WpLaws.{FmC}
@@ -77,7 +78,8 @@ module _ {M : Type 1} (𝓤 : URA M) (H : Heap 𝓤) (A : Atoms 𝓤) (W : Given
   bool-typed u t e = bool-lawful 𝓤 H A W .typed t (u ∷ []) (ap (λ z. z ∷ []) e) .0
 
   pub gives-back : (h : Writer) (size : ℕ) → length (h .buffer .now) ≡ size
-      → ent 𝓤 (sem 𝓤 H A (R .own h (T′.lowered h ∷ []))) (sem 𝓤 H A (MutSlice (named 0) κ u8 .own (h .buffer) (sliceVal (h .buffer .ptr) size ∷ [])))
+      → ent 𝓤 (sem 𝓤 H A (R .own h (T′.lowered h ∷ []))) (sem 𝓤 H A
+      (MutSlice (named 0) κ u8 .own (h .buffer) (sliceVal (h .buffer .ptr) size ∷ [])))
   gives-back h size same =
       qed W (‵ (R .own h (T′.lowered h ∷ [])) ∷ []) ∵
       use1 W (given (T′.lowered h ∷ [] ≡ T′.lowered h ∷ []) (‵ (all-own (T.the-type α .parts) (T′.the-laws α) (h .buffer, (h .at, tt)))))

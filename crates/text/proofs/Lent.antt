@@ -1,7 +1,8 @@
 -- A writer in a local that is lent for one call of a function of `Thin.antt`'s contracts, and comes back with the piece put in.
 -- The lifetime of the loan is the meet of an atom ν that is made for the call and of the buffer's lifetime κ, so that κ outlives it.
 --     lend     the local's cell, what the writer owns and a token of κ  ⊢ ⇛  what the callee asks, and what is kept meanwhile
---     back     what the callee gives, and what was kept  ⊢ ⇛  the cell, what the writer owns and the token, at the writer with the piece put in
+--     back     what the callee gives, and what was kept  ⊢ ⇛  the cell, what the writer owns and the token, at the writer with the piece
+--              put in
 --     calls-lent    both, around the call: a step of `Types/Kit.antt`'s calculus
 --     calls-thin, calls-mark    the same of a function that takes a value, and of one whose byte is a literal of its code
 -- Assumes `Given`.
@@ -97,7 +98,8 @@ module _ {M : Type 1} (𝓤 : URA M) (H : Heap 𝓤) (A : Atoms 𝓤) (W : Given
     Kept ν γ = sep 𝓤 (wand 𝓤 (A .lft (ν ∷ []) qₗ) (A .lft (ν ∷ []) fullShare)) (A .lent (ν ∷ κ) (Body (mem R) l 0 γ))
 
     -- a callee's contract, and what its triple binds for a loan
-    module _ (Callee : Contract 𝓤) (to : ℕ → GName → Callee .Ghost) (give : (ν : ℕ) (γ : GName) → ent 𝓤 (Given-for ν γ) (Callee .pre (to ν γ)))
+    module _ (Callee : Contract 𝓤) (to : ℕ → GName → Callee .Ghost) (give : (ν : ℕ) (γ : GName)
+        → ent 𝓤 (Given-for ν γ) (Callee .pre (to ν γ)))
         (gave : (ν : ℕ) (γ : GName) (u : Val) → ent 𝓤 (Callee .post (to ν γ) u) (H .⇛ (Given-back ν γ u))) where
       abbrev Lent : ℕ → GName → SProp 𝓤
       Lent ν γ = sep 𝓤 (Callee .pre (to ν γ)) (Kept ν γ)
@@ -111,7 +113,8 @@ module _ {M : Type 1} (𝓤 : URA M) (H : Heap 𝓤) (A : Atoms 𝓤) (W : Given
           fjoin ! $ fpack ! (List Val) (λ us. fsep (cellAt fullShare (R .mir) us l 0) (R .own h us)) (T′.lowered h ∷ []) $
           -- [the writer lies in the local; the token of κ]
           lft-new ! tt (λ ν.
-          use1 W (‵ (flft (ν ∷ []) qₗ) ⊛ raw (wand 𝓤 (A .lft (ν ∷ []) qₗ) (A .lft (ν ∷ []) fullShare))) (W .lfts .lft-carve ν qₗ) $ split ! $
+          use1 W (‵ (flft (ν ∷ []) qₗ) ⊛ raw (wand 𝓤 (A .lft (ν ∷ []) qₗ) (A .lft (ν ∷ []) fullShare))) (W .lfts .lft-carve ν qₗ) $
+          split ! $
           move ! (3 ∷ []) $ use1 W (‵ (flft κ qₗ) ⊛ ‵ (flft κ qᵣ)) (W .lfts .lft-split κ q) $ split ! $
           move ! (2 ∷ 0 ∷ []) $ use2 W (‵ (flft (ν ∷ κ) qₗ)) (W .lfts .lft-meet (ν ∷ []) κ qₗ) $
           -- [the loan's token; κ's; what restores ν's; the writer lies in the local]
@@ -124,24 +127,28 @@ module _ {M : Type 1} (𝓤 : URA M) (H : Heap 𝓤) (A : Atoms 𝓤) (W : Given
           at-once ! $ show ! (λ (ν′ : ℕ). ex 𝓤 (Lent ν′)) ν $ show ! (Lent ν) γ $ frame ! $ done !))
 
       back : (ν : ℕ) (γ : GName) (u : Val) → ent 𝓤 (sep 𝓤 (Callee .post (to ν γ) u) (Kept ν γ))
-          (H .⇛ (sep 𝓤 (⋆ 𝓤 H A (‵ (fat fullShare (T′.mir erased) l 0 (T′.lowered h′)) ∷ ‵ (R .own h′ (T′.lowered h′ ∷ [])) ∷ ‵ (flft κ q) ∷ []))
+          (H .⇛ (sep 𝓤 (⋆ 𝓤 H A (‵ (fat fullShare (T′.mir erased) l 0 (T′.lowered h′)) ∷ ‵ (R .own h′ (T′.lowered h′ ∷ [])) ∷ ‵
+          (flft κ q) ∷ []))
           (fact 𝓤 (Answered u))))
       unfolding partOf
       back ν γ u =
           qed W (raw (Callee .post (to ν γ) u) ∷ raw (Kept ν γ) ∷ []) ∵ updating ! $
-          use1 W (later ((‵ (flft (ν ∷ κ) qₗ) ⊛ ‵ (flft κ qᵣ) ⊛ ‵ (fres γ (R .coded .code h′))) ⊛ raw (fact 𝓤 (Answered u)))) (gave ν γ u) $ await ! tt $
+          use1 W (later ((‵ (flft (ν ∷ κ) qₗ) ⊛ ‵ (flft κ qᵣ) ⊛ ‵ (fres γ (R .coded .code h′))) ⊛ raw (fact 𝓤 (Answered u))))
+          (gave ν γ u) $ await ! tt $
           split ! $ move ! (1 ∷ []) $ heard ! (Answered u) (λ e. split ! $
           use1 W (‵ (flft (ν ∷ []) qₗ) ⊛ ‵ (flft κ qₗ)) (W .lfts .lft-unmeet (ν ∷ []) κ qₗ) $ split ! $
           -- [ν's token; κ's; κ's other half, and the last writer; what was kept]
           move ! (2 ∷ []) $ split ! $ move ! (3 ∷ 0 ∷ []) $ use2 W (‵ (flft κ q)) (W .lfts .lft-join κ q) $
           move ! (3 ∷ []) $
-          use1 W (raw (wand 𝓤 (A .lft (ν ∷ []) qₗ) (A .lft (ν ∷ []) fullShare)) ⊛ ‵ (flent (ν ∷ κ) (Body (mem R) l 0 γ))) (id⊢ 𝓤 _) $ split ! $
+          use1 W (raw (wand 𝓤 (A .lft (ν ∷ []) qₗ) (A .lft (ν ∷ []) fullShare)) ⊛ ‵ (flent (ν ∷ κ) (Body (mem R) l 0 γ))) (id⊢ 𝓤 _) $
+          split ! $
           move ! (4 ∷ 0 ∷ []) $ apply ! $ use1 W (‵ (flft (ν ∷ []) fullShare)) (id⊢ 𝓤 _) $ lft-end ! tt $
           use1 W (‵ (fdead (ν ∷ κ))) (W .lfts .dead-incl (ν ∷ κ) (ν ∷ []) (ends ν)) $
           -- [the loan is over; the lender's part; κ's token; the last writer]
           move ! (0 ∷ 1 ∷ 3 ∷ []) $ use3 W (later (‵ (mem R .lies h′ l 0))) (ref-back 𝓤 H A W R (ν ∷ κ) γ h′ l 0) $ await ! tt $
           fpick ! (λ vs. fsplit ! $
-          spelt ! R (Is R) (shows 𝓤 H A R) (LL.vals (T.the-type α) (T′.the-laws α)) (LL.tells (T.the-type α) (T′.the-laws α)) fullShare h′ vs l 0 $
+          spelt ! R (Is R) (shows 𝓤 H A R) (LL.vals (T.the-type α) (T′.the-laws α))
+          (LL.tells (T.the-type α) (T′.the-laws α)) fullShare h′ vs l 0 $
           use1 W (‵ (fat fullShare (T′.mir erased) l 0 (T′.lowered h′))) (W .laws .raw-at fullShare (T′.mir erased) l 0 (T′.lowered h′)) $
           at-once ! $ says ! e $ keep ! (0 ∷ 1 ∷ 2 ∷ []) $ done !))
 
@@ -157,7 +164,8 @@ module _ {M : Type 1} (𝓤 : URA M) (H : Heap 𝓤) (A : Atoms 𝓤) (W : Given
           split t $ move t (1 ∷ []) $ heard t (Answered u) (λ e. k u e))))
 
   -- a function that takes a value v, of which something may be asked
-  module _ (X : RattleType) (piece : X .Denot → List ℕ) (asked : X .Denot → SProp 𝓤) (val : X .Denot → Val) (made : Makes 𝓤 H A X (Is X)) where
+  module _ (X : RattleType) (piece : X .Denot → List ℕ) (asked : X .Denot → SProp 𝓤) (val : X .Denot → Val)
+      (made : Makes 𝓤 H A X (Is X)) where
     abbrev pub Thin : Contract 𝓤
     Thin = tripleOf 𝓤 H A (writes X piece .signature) (closing 𝓤 H A (writes X piece) (writing X piece 𝓤 asked))
 
@@ -170,7 +178,8 @@ module _ {M : Type 1} (𝓤 : URA M) (H : Heap 𝓤) (A : Atoms 𝓤) (W : Given
 
       thin-give : (ν : ℕ) (γ : GName) → ent 𝓤 (Given-for l h (piece v) ν γ) (Thin .pre (thin-to ν γ))
       thin-give ν γ =
-          qed W (‵ (flft (ν ∷ κ) qₗ) ∷ ‵ (flft κ qᵣ) ∷ ‵ (MutRef (named 0) (ν ∷ κ) R .own (lent-ref l h (piece v) γ) (vptr l 0 ∷ [])) ∷ []) ∵
+          qed W (‵ (flft (ν ∷ κ) qₗ) ∷ ‵ (flft κ qᵣ) ∷ ‵ (MutRef (named 0) (ν ∷ κ) R .own (lent-ref l h (piece v) γ) (vptr l 0 ∷ [])) ∷
+          []) ∵
           nothing ! $ owned ! X (Is X) made v _ v-is $ fjoin ! $ move ! (3 ∷ 0 ∷ []) $ fjoin ! $
           nothing ! $ move ! (3 ∷ 0 ∷ []) $ join ! $ move ! (2 ∷ 0 ∷ []) $ join ! $ join ! $
           use0 W (raw (asked v)) ask $ move ! (1 ∷ 0 ∷ []) $ done !
@@ -179,10 +188,12 @@ module _ {M : Type 1} (𝓤 : URA M) (H : Heap 𝓤) (A : Atoms 𝓤) (W : Given
       thin-gave ν γ u =
           qed W (raw (Thin .post (thin-to ν γ) u) ∷ []) ∵ updating ! $
           use1 W (later (some (λ (r : Bool). ((‵ (flft (ν ∷ κ) qₗ) ⊛ ‵ (flft κ qᵣ) ⊛ ‵ ftrue) ⊛ ‵ (bool .own r (u ∷ [])))
-          ⊛ raw (ensured 𝓤 H A (writes X piece) (writing X piece 𝓤 asked) (lifetimes ν) (thin-passed γ) tt r)))) (id⊢ 𝓤 _) $ await ! tt $ pick ! (λ r.
+          ⊛ raw (ensured 𝓤 H A (writes X piece) (writing X piece 𝓤 asked) (lifetimes ν) (thin-passed γ) tt r)))) (id⊢ 𝓤 _) $ await ! tt $
+          pick ! (λ r.
           split ! $ move ! (1 ∷ []) $
           use1 W (some (λ (zs : Lasts (writes X piece) (lifetimes ν) (thin-passed γ)).
-          ‵ (lasts (writes X piece) (lifetimes ν) (thin-passed γ) zs) ⊛ raw (fact 𝓤 (Wrote h (piece v) r (zs .0))))) (id⊢ 𝓤 _) $ pick ! (λ zs.
+          ‵ (lasts (writes X piece) (lifetimes ν) (thin-passed γ) zs) ⊛ raw (fact 𝓤 (Wrote h (piece v) r (zs .0))))) (id⊢ 𝓤 _) $
+          pick ! (λ zs.
           split ! $ move ! (1 ∷ []) $ heard ! (Wrote h (piece v) r (zs .0)) (λ e. fsplit ! $
           rewrite ! 0 (λ (z : Writer). ‵ (fres γ (R .coded .code z))) (e .1) refl $
           -- [the last writer; …; the tokens and the answer]
@@ -190,7 +201,8 @@ module _ {M : Type 1} (𝓤 : URA M) (H : Heap 𝓤) (A : Atoms 𝓤) (W : Given
           split ! $ move ! (1 ∷ []) $ split ! $ move ! (2 ∷ 0 ∷ 3 ∷ []) $
           at-once ! $ says ! (ap only is ∙ ap vbool (e .0)) $ keep ! (0 ∷ 1 ∷ 2 ∷ []) $ done !))))
 
-      pub calls-thin : {K : Type 0} {Γ : List (Item 𝓤)} {E : Env 𝓤 H} {C : Calls 𝓤 H} {f : Name} {xs : List Opd} {Λ : Loops 𝓤 H} {p : Post 𝓤 H}
+      pub calls-thin : {K : Type 0} {Γ : List (Item 𝓤)} {E : Env 𝓤 H} {C : Calls 𝓤 H} {f : Name} {xs : List Opd} {Λ : Loops 𝓤 H}
+          {p : Post 𝓤 H}
           {d : Place} {rest : Code} → K → FmC 𝓤 H (W .laws) C → Triple 𝓤 (C f) Thin
           → ((ν : ℕ) (γ : GName) → Opds K W
           (raw (Thin .pre (thin-to ν γ)) ∷ raw (Kept l h (piece v) ν γ) ∷ Γ) E xs (vptr l 0 ∷ val v ∷ []))
@@ -212,7 +224,8 @@ module _ {M : Type 1} (𝓤 : URA M) (H : Heap 𝓤) (A : Atoms 𝓤) (W : Given
 
         mark-give : (ν : ℕ) (γ : GName) → ent 𝓤 (Given-for l h (piece v) ν γ) (Mark .pre (mark-to ν γ))
         mark-give ν γ =
-            qed W (‵ (flft (ν ∷ κ) qₗ) ∷ ‵ (flft κ qᵣ) ∷ ‵ (MutRef (named 0) (ν ∷ κ) R .own (lent-ref l h (piece v) γ) (vptr l 0 ∷ [])) ∷ []) ∵
+            qed W (‵ (flft (ν ∷ κ) qₗ) ∷ ‵ (flft κ qᵣ) ∷ ‵ (MutRef (named 0) (ν ∷ κ) R .own (lent-ref l h (piece v) γ) (vptr l 0 ∷ [])) ∷
+            []) ∵
             nothing ! $ move ! (3 ∷ 0 ∷ []) $ fjoin ! $
             nothing ! $ move ! (3 ∷ 0 ∷ []) $ join ! $ move ! (2 ∷ 0 ∷ []) $ join ! $ join ! $ frame ! $ done !
 
@@ -220,17 +233,20 @@ module _ {M : Type 1} (𝓤 : URA M) (H : Heap 𝓤) (A : Atoms 𝓤) (W : Given
         mark-gave ν γ u =
             qed W (raw (Mark .post (mark-to ν γ) u) ∷ []) ∵ updating ! $
             use1 W (later (some (λ (r : Bool). ((‵ (flft (ν ∷ κ) qₗ) ⊛ ‵ (flft κ qᵣ) ⊛ ‵ ftrue) ⊛ ‵ (bool .own r (u ∷ [])))
-            ⊛ raw (ensured 𝓤 H A (marks X piece) (marking X piece 𝓤 v) (lifetimes ν) (mark-passed γ) tt r)))) (id⊢ 𝓤 _) $ await ! tt $ pick ! (λ r.
+            ⊛ raw (ensured 𝓤 H A (marks X piece) (marking X piece 𝓤 v) (lifetimes ν) (mark-passed γ) tt r)))) (id⊢ 𝓤 _) $ await ! tt $
+            pick ! (λ r.
             split ! $ move ! (1 ∷ []) $
             use1 W (some (λ (zs : Lasts (marks X piece) (lifetimes ν) (mark-passed γ)).
-            ‵ (lasts (marks X piece) (lifetimes ν) (mark-passed γ) zs) ⊛ raw (fact 𝓤 (Wrote h (piece v) r (zs .0))))) (id⊢ 𝓤 _) $ pick ! (λ zs.
+            ‵ (lasts (marks X piece) (lifetimes ν) (mark-passed γ) zs) ⊛ raw (fact 𝓤 (Wrote h (piece v) r (zs .0))))) (id⊢ 𝓤 _) $
+            pick ! (λ zs.
             split ! $ move ! (1 ∷ []) $ heard ! (Wrote h (piece v) r (zs .0)) (λ e. fsplit ! $
             rewrite ! 0 (λ (z : Writer). ‵ (fres γ (R .coded .code z))) (e .1) refl $
             move ! (2 ∷ []) $ split ! $ move ! (1 ∷ []) $ peeks ! bool (Is bool) (shows 𝓤 H A bool) r (u ∷ []) (λ is. drop ! $
             split ! $ move ! (1 ∷ []) $ split ! $ move ! (2 ∷ 0 ∷ 3 ∷ []) $
             at-once ! $ says ! (ap only is ∙ ap vbool (e .0)) $ keep ! (0 ∷ 1 ∷ 2 ∷ []) $ done !))))
 
-        pub calls-mark : {K : Type 0} {Γ : List (Item 𝓤)} {E : Env 𝓤 H} {C : Calls 𝓤 H} {f : Name} {xs : List Opd} {Λ : Loops 𝓤 H} {p : Post 𝓤 H}
+        pub calls-mark : {K : Type 0} {Γ : List (Item 𝓤)} {E : Env 𝓤 H} {C : Calls 𝓤 H} {f : Name} {xs : List Opd} {Λ : Loops 𝓤 H}
+            {p : Post 𝓤 H}
             {d : Place} {rest : Code} → K → FmC 𝓤 H (W .laws) C → Triple 𝓤 (C f) Mark
             → ((ν : ℕ) (γ : GName) → Opds K W
             (raw (Mark .pre (mark-to ν γ)) ∷ raw (Kept l h (piece v) ν γ) ∷ Γ) E xs (vptr l 0 ∷ []))

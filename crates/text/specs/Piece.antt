@@ -6,7 +6,7 @@
 --   Appended            == what each function that puts a piece in answers, and what it leaves
 --   joined pieces       == the pieces, one after the other
 --   placeWith, bufferWith == the place and the buffer after several pieces, each put in where it fits
---   Composed            == what a function that puts a line together answers, and what it leaves: how far the buffer is filled, and the buffer
+--   Composed            == what a function that puts a line together answers and leaves: how far the buffer is filled, and the buffer
 -- Theorems has what these come to: `piece-fits`, `piece-put`, `piece-refused` and `pieces-put`.
 -- Assumes nothing.
 use mathlib.Core.Path.{_≡_}

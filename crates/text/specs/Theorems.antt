@@ -1,6 +1,6 @@
 -- What the definitions of Piece come to. Document 01: "A piece that doesn't fit leaves both unchanged, and the writer says so".
 --   piece-fits, fits-piece == a piece fits exactly where the filled bytes and its own are at most the buffer's: one that just fills it fits
---   piece-put         == a piece that fits stands whole behind the filled bytes, every other byte is as it was, and the count grows by its length
+--   piece-put         == a piece that fits stands whole behind the filled bytes, every other byte is as it was, and the place moves past it
 --   piece-refused     == one that is a byte too long, or longer, leaves the buffer and the count as they were, and this is what is said
 --   pieces-put        == pieces that have room together stand one after the other at the buffer's front, and the rest is as it was
 -- Assumes nothing.

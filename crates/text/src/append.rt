@@ -1,4 +1,4 @@
-// Pieces of text put into a lent buffer that is filled up to some place. A piece that does not fit leaves the buffer and the place unchanged.
+// Pieces of text put into a lent buffer that is filled up to some place. A piece that does not fit leaves both unchanged.
 ghost use mathlib.Core.Path.{_≡_};
 ghost use mathlib.Core.List.{[], _∷_};
 ghost use Prim.Native.Nat.{_+_, _<_, _≤_};

@@ -1,5 +1,5 @@
-// The line writer: it keeps the lent buffer, and how far that is filled. A piece that does not fit leaves both unchanged, and the answer says so.
-// Each function is thin and is proved by a walk by hand; the work is done by the functions over a buffer and a place.
+// The line writer: it keeps the lent buffer, and how far that is filled. A piece that does not fit leaves both unchanged, and the answer
+// says so. Each function is thin and is proved by a walk by hand; the work is done by the functions over a buffer and a place.
 ghost use mathlib.Core.Path.{_≡_};
 ghost use mathlib.Core.List.{[], _∷_};
 ghost use Prim.Native.Nat.{_<_};

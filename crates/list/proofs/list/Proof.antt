@@ -17,7 +17,8 @@ returns c =
     let r = c .write-listing in
     let begins = c .before .begin .ensures in
     let input = c .before .before .before .args .input .now in
-    let reached : r .result .state ≡ stateAfter (r .result .steps) (begun input) = r .ensures .0 ∙ ap (stateAfter (r .result .steps)) begins in
+    let reached : r .result .state ≡ stateAfter (r .result .steps) (begun input) = r .ensures .0
+    ∙ ap (stateAfter (r .result .steps)) begins in
     (reached, λ e. output-written (r .result .steps) input (sym reached ∙ r .ensures .1 e))
 
 pub list-spec : {M : Type 1} → statement M

@@ -8,7 +8,8 @@ use borrow.Author.Needs.{needs}
 use Rattle.listing.proofs.begin.Statement.{statement}
 use Rattle.listing.proofs.begin.Tie as tie
 
-found : (c : tie.After-known-told) → parsed (c .before .before .before .before .before .args .input .now) ≡ settings (c .before .found .given .0 .0)
+found : (c : tie.After-known-told) → parsed (c .before .before .before .before .before .args .input .now) ≡ settings
+    (c .before .found .given .0 .0)
 found c = sym (c .before .before .before .parse .ensures) ∙ c .before .found .given .1
 
 parse-requires : tie.Need-parse-requires

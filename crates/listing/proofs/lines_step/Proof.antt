@@ -1,4 +1,5 @@
--- `listing::lines_step` meets its contract: nothing where the settings are refused or no line is left, else the lines up to the chunk's end.
+-- `listing::lines_step` meets its contract: nothing where the settings are refused or no line is left, else the lines up to the chunk's
+-- end.
 use mathlib.Core.Path.{_≡_, _∙_, ap, sym}
 use mathlib.Core.Bool.{true}
 use native.Mathlib.Omega.{arith}

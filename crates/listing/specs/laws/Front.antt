@@ -1,7 +1,7 @@
 -- Laws of what is written to a buffer's front; no part of the meaning.
 --   written-length   == the buffer stays as long as it is
 --   written-more, -part == a further piece behind, and a piece written to the first bytes of what is left
---   composed-line, -front == a line put together that has room stands at the front: of the buffer, and of one whose first bytes are lent for it
+--   composed-line, -front == a line put together that has room stands at the front: of the buffer, or of one whose first bytes it is lent
 -- Assumes nothing.
 use mathlib.Core.Path.{_≡_, ap, _∙_, sym}
 use mathlib.Core.List.{List, _++_, append-assoc}
@@ -23,10 +23,12 @@ written-more start s piece =
     ∙ ap (λ t. s ++ piece ++ t) (drop-drop (length piece) (length s) start ∙ ap (λ i. drop i start) (sym (length-append s piece)))
 
 -- a piece written to the first w bytes of what is left
-pub written-part : (rest piece : List ℕ) (w : ℕ) → length piece ≤ length (take w rest) → written piece (take w rest) ++ drop w rest ≡ written piece rest
+pub written-part : (rest piece : List ℕ) (w : ℕ) → length piece ≤ length (take w rest)
+    → written piece (take w rest) ++ drop w rest ≡ written piece rest
 written-part rest piece w h =
     append-assoc piece (drop (length piece) (take w rest)) (drop w rest)
-    ∙ ap (λ t. piece ++ t) (sym (drop-append-le (length piece) (take w rest) (drop w rest) h) ∙ ap (drop (length piece)) (take-append-drop w rest))
+    ∙ ap (λ t. piece ++ t) (sym (drop-append-le (length piece) (take w rest) (drop w rest) h)
+    ∙ ap (drop (length piece)) (take-append-drop w rest))
 
 -- a line that is put together, and has room, stands at the front
 pub composed-line : (buffer : List ℕ) (pieces : List (List ℕ)) (line : List ℕ) (size : ℕ) (after : List ℕ) → joined pieces ≡ line

@@ -24,7 +24,8 @@ use Rattle.settings_line.specs.SettingsLine.{parsed}
 use Rattle.settings_line.specs.declared.Settings.{Settings}
 use Rattle.settings_line.specs.declared.Parsed.the-variants.{Settings as settings, Malformed}
 use Rattle.listing.specs.Listing.{listRefusal, linesFrom}
-use Rattle.listing.specs.Steps.{live, linesEnd, progressTo, remainingLines, begunFor, begun, linesChunk, linesNext, nextState, stateAfter}
+use Rattle.listing.specs.Steps.{live, linesEnd, progressTo, remainingLines, begunFor, begun, linesChunk, linesNext, nextState}
+use Rattle.listing.specs.Steps.{stateAfter}
 use Rattle.listing.specs.Front.{written}
 use Rattle.listing.specs.declared.Progress.{Progress}
 use Rattle.listing.specs.declared.State.{State}
@@ -77,7 +78,8 @@ end-within count i h =
     ⊎-elim (λ long. rw (end-long count i long) (omega arith, omega arith, omega arith, omega arith))
     (λ short. rw (end-short count i short) (h, omega arith, omega arith, omega arith)) (le-or-lt 64 (count - i))
 
-pub remaining-live : (p : Progress) → live p ≡ true → remainingLines p ≡ linesFrom (p .q) (p .n) (p .k) (p .index .0) (countOf p - p .index .0)
+pub remaining-live : (p : Progress) → live p ≡ true → remainingLines p ≡ linesFrom (p .q) (p .n) (p .k) (p .index .0)
+    (countOf p - p .index .0)
 unfolding remainingLines
 remaining-live p e = rw (e, remainingLines)
 
@@ -86,7 +88,8 @@ unfolding remainingLines
 remaining-dead p e = rw (e, remainingLines)
 
 -- where the settings are not refused, the lines from the index on are left, none past the count
-pub remaining-from : (p : Progress) → refusalOf p ≡ 0 → remainingLines p ≡ linesFrom (p .q) (p .n) (p .k) (p .index .0) (countOf p - p .index .0)
+pub remaining-from : (p : Progress) → refusalOf p ≡ 0 → remainingLines p ≡ linesFrom (p .q) (p .n) (p .k) (p .index .0)
+    (countOf p - p .index .0)
 unfolding linesFrom
 remaining-from p r =
     ⊎-elim
@@ -104,13 +107,15 @@ module _ (input : List ℕ) (x : Settings) (e : parsed input ≡ settings x) whe
   unfolding begun
   begun-refused r =
       ap begunFor e
-      ∙ ap (λ b. elim b [ true ↦ Header x | false ↦ Refused (listRefusal (x .q) (x .n) (x .k)) ]) (ne-eqb (listRefusal (x .q) (x .n) (x .k)) 0 r)
+      ∙ ap (λ b. elim b [ true ↦ Header x | false ↦ Refused (listRefusal (x .q) (x .n) (x .k)) ])
+      (ne-eqb (listRefusal (x .q) (x .n) (x .k)) 0 r)
 
   pub begun-header : listRefusal (x .q) (x .n) (x .k) ≡ 0 → begun input ≡ Header x
   unfolding begun
   begun-header r =
       ap begunFor e
-      ∙ ap (λ b. elim b [ true ↦ Header x | false ↦ Refused (listRefusal (x .q) (x .n) (x .k)) ]) (eq-eqb (listRefusal (x .q) (x .n) (x .k)) 0 r)
+      ∙ ap (λ b. elim b [ true ↦ Header x | false ↦ Refused (listRefusal (x .q) (x .n) (x .k)) ])
+      (eq-eqb (listRefusal (x .q) (x .n) (x .k)) 0 r)
 
 pub chunk-live : (p : Progress) → live p ≡ true
     → linesChunk p ≡ linesFrom (p .q) (p .n) (p .k) (p .index .0) (linesEnd (countOf p) (p .index .0) - p .index .0)

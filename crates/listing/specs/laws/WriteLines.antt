@@ -80,8 +80,10 @@ module _ (q n k from to : ℕ) (start buffer : List ℕ) (at index : ℕ) (f : F
         let further : linesFrom q n k from (index + 1 - from) ≡ lines ++ line =
         ap (linesFrom q n k from) count ∙ lines-more q n k from (index - from) ∙ ap (λ i. lines ++ listingLine q n k i) next in
         let front : take at buffer ≡ lines = ap (take at) (f .holds) ∙ take-at lines (drop (length lines) start) at (sym (f .place)) in
-        let rest : drop at buffer ≡ drop (length lines) start = ap (drop at) (f .holds) ∙ drop-at lines (drop (length lines) start) at (sym (f .place)) in
-        let short : length line ≤ length (take w (drop at buffer)) = omega (arith, line-short q n k index l (omega arith), filling-room .1) in
+        let rest : drop at buffer ≡ drop (length lines) start = ap (drop at) (f .holds)
+        ∙ drop-at lines (drop (length lines) start) at (sym (f .place)) in
+        let short : length line ≤ length (take w (drop at buffer)) = omega
+        (arith, line-short q n k index l (omega arith), filling-room .1) in
         record {
           above = omega arith;
           below = omega (arith, more);

@@ -14,13 +14,15 @@ first-read c = sym (c .before .before .before .read-field .ensures) ∙ c .befor
 
 second-read : (c : tie.After-known-told2)
     → let d = c .before .before .before .before in
-    fieldAt (d .before .before .before .before .before .args .text .now) (d .before .first .given .0 .0 .end) 3 comma ≡ Number (c .before .second .given .0 .0)
+    fieldAt (d .before .before .before .before .before .args .text .now) (d .before .first .given .0 .0 .end) 3 comma ≡ Number
+    (c .before .second .given .0 .0)
 second-read c = sym (c .before .before .before .read-field2 .ensures) ∙ c .before .second .given .1
 
 third-read : (c : tie.After-known-told3)
     → let e = c .before .before .before .before in
     let d = e .before .before .before .before in
-    fieldAt (d .before .before .before .before .before .args .text .now) (e .before .second .given .0 .0 .end) 3 lineFeed ≡ Number (c .before .third .given .0 .0)
+    fieldAt (d .before .before .before .before .before .args .text .now) (e .before .second .given .0 .0 .end) 3 lineFeed ≡ Number
+    (c .before .third .given .0 .0)
 third-read c = sym (c .before .before .before .read-field3 .ensures) ∙ c .before .third .given .1
 
 read-field-requires : tie.Need-read-field-requires

@@ -2,7 +2,7 @@
 --   numeral-single, numeral-led == when digits pass the test for a numeral
 --   read-number     == what is read is the number of the digits there, and the test holds
 --   decimal-unread  == nothing is read where the digits make too great a number
---   decimal-inside, -empty, -long, -single, -zero-led, -led == what is read where they make the number x, by their number and the first of them
+--   decimal-inside, -empty, -long, -single, -zero-led, -led == what is read where they make the number x, by their number and first byte
 --   field-unread, -open, -other, -marked == what is read with the byte behind it
 -- Assumes nothing.
 use mathlib.Core.Path.{_≡_, refl, ap, ap₂, _∙_, sym}

@@ -38,7 +38,8 @@ decimal-is text at most x e =
     let value : x .value ≡ reading 0 s = ap (λ y. y .value) (r .1) in
     let end : x .end ≡ at + length s = ap (λ y. y .end) (r .1) in
     let digits = numeral-reading s (run-digits (drop at text)) (f .nonempty) (f .first) in (
-      run-split (drop at text) ∙ ap₂ _++_ (sym digits ∙ ap numeral (sym value)) (drop-drop (length s) at text ∙ ap (λ i. drop i text) (sym end)),
+      run-split (drop at text) ∙ ap₂ _++_ (sym digits ∙ ap numeral (sym value)) (drop-drop (length s) at text
+          ∙ ap (λ i. drop i text) (sym end)),
       rw value (lt-of-lt-of-le (reading-below (run-digits (drop at text))) (pow-le-pow-right (omega arith) (f .short))),
     )
 

@@ -22,11 +22,13 @@ use Rattle.text.specs.Text.{glyph, numeralWithin, numeral}
 digit-within : (more x : ℕ) → x < 10 → numeralWithin more x ≡ glyph x ∷ []
 unfolding numeralWithin
 digit-within zero x h = ap (λ d. glyph d ∷ []) (mod-eq-of-lt h)
-digit-within (suc more) x h = ap (λ t. elim t [ true ↦ glyph x ∷ [] | false ↦ numeralWithin more (x / 10) ++ (glyph (x % 10) ∷ []) ]) (lt-ltb x 10 h)
+digit-within (suc more) x h = ap (λ t. elim t [ true ↦ glyph x ∷ [] | false ↦ numeralWithin more (x / 10) ++ (glyph (x % 10) ∷ []) ])
+    (lt-ltb x 10 h)
 
 step-within : (more x : ℕ) → 10 ≤ x → numeralWithin (suc more) x ≡ numeralWithin more (x / 10) ++ (glyph (x % 10) ∷ [])
 unfolding numeralWithin
-step-within more x h = ap (λ t. elim t [ true ↦ glyph x ∷ [] | false ↦ numeralWithin more (x / 10) ++ (glyph (x % 10) ∷ []) ]) (le-ltb x 10 h)
+step-within more x h = ap (λ t. elim t [ true ↦ glyph x ∷ [] | false ↦ numeralWithin more (x / 10) ++ (glyph (x % 10) ∷ []) ])
+    (le-ltb x 10 h)
 
 -- room for more digits than there are makes no difference
 room-within : (a b x : ℕ) → x ≤ a → x ≤ b → numeralWithin a x ≡ numeralWithin b x

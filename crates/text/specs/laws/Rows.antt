@@ -63,7 +63,8 @@ module _ (n : ℕ) (m : List ℕ) where
   rowsText-slash (suc zero) i h = absurd (omega arith)
   rowsText-slash (suc (suc b)) i h =
       ⊎-elim
-      (λ l. earlier b (i * suc n + n) (omega (arith, mul-le-mul-right {m = suc i} {n = b} (suc n) l)) ∙ rowsText-slash (suc b) i (omega arith))
+      (λ l. earlier b (i * suc n + n) (omega (arith, mul-le-mul-right {m = suc i} {n = b} (suc n) l))
+      ∙ rowsText-slash (suc b) i (omega arith))
       (λ g.
       let e : i ≡ b = omega arith in
       rw e (ap (λ p. getD (rowsText n (suc (suc b)) m) p 0) (sym (add-zero (b * suc n + n))) ∙ later b 0))
@@ -81,7 +82,8 @@ module _ (n : ℕ) (m : List ℕ) where
   rowsText-digit (suc zero) i j h l = first i j h l
   rowsText-digit (suc (suc b)) i j h l =
       ⊎-elim
-      (λ g. earlier b (i * suc n + j) (omega (arith, mul-le-mul-right {m = i} {n = b} (suc n) g)) ∙ rowsText-digit (suc b) i j (omega arith) l)
+      (λ g. earlier b (i * suc n + j) (omega (arith, mul-le-mul-right {m = i} {n = b} (suc n) g))
+      ∙ rowsText-digit (suc b) i j (omega arith) l)
       (λ g.
       let e : i ≡ suc b = omega arith in
       let f : suc b * suc n + j ≡ b * suc n + n + suc j = omega arith in

@@ -1,4 +1,5 @@
--- `listing::write::write_header` meets its contract: the pieces have room in the 320 bytes that are lent, so they stand one after the other.
+-- `listing::write::write_header` meets its contract: the pieces have room in the 320 bytes that are lent, so they stand one after the
+-- other.
 use mathlib.Core.Path.{ap, sym}
 use mathlib.Core.List.{[], _∷_, _++_}
 use native.Mathlib.Omega.{arith}

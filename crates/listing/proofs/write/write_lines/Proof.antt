@@ -1,11 +1,13 @@
--- `listing::write::write_lines` meets its contract: the lines passed stand at the buffer's front, each at most 276 bytes long, so that the next
+-- `listing::write::write_lines` meets its contract: the lines passed stand at the buffer's front, each at most 276 bytes long, so that the
+-- next
 -- has its 320 bytes of room.
 use mathlib.Core.Path.{_≡_, refl}
 use Prim.Native.Nat.{_+_, _-_, _≤_}
 use native.Mathlib.Omega.{arith}
 use lib.ListN.{length}
 use Rattle.listing.specs.laws.Line.{line-short}
-use Rattle.listing.specs.laws.WriteLines.{Filling, filling-start, filling-small, filling-length, filling-room, filling-more, filling-end}
+use Rattle.listing.specs.laws.WriteLines.{Filling, filling-start, filling-small, filling-length, filling-room, filling-more}
+use Rattle.listing.specs.laws.WriteLines.{filling-end}
 use Rattle.listing.proofs.write.write_lines.Statement.{statement}
 use Rattle.listing.proofs.write.write_lines.Tie as tie
 
@@ -80,7 +82,8 @@ loop-again c =
     let l = w .before .before .before in
     let s = l .before .before in
     let lent : l .loop .at + 320 - l .loop .at ≡ 320 = omega arith in
-    filling-more _ _ _ _ _ _ _ _ _ (l .loop .inv) (s .pre .0) (s .pre .2) (s .pre .3) (s .pre .4) _ lent (w .before .before .loop-test .taken) _ _
+    filling-more _ _ _ _ _ _ _ _ _ (l .loop .inv) (s .pre .0) (s .pre .2) (s .pre .3) (s .pre .4) _ lent
+    (w .before .before .loop-test .taken) _ _
     (w .write-space .ensures .0) (w .write-space .ensures .1)
 
 same-length : tie.Need-same-length Inv-loop μ-loop

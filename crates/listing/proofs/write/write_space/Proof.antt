@@ -14,7 +14,7 @@ use Rattle.text.specs.Text.{comma, lineFeed, numeral}
 use Rattle.text.specs.Piece.{joined}
 use Rattle.text.specs.Rows.{DigitRows, rowsText}
 use Rattle.text.specs.laws.Rows.{size-bound, rowsText-front}
-use Rattle.listing.specs.Line.{lineText}
+use Rattle.listing.specs.Line.{lineText, linePieces}
 use Rattle.listing.specs.Listing.{listingLine}
 use Rattle.listing.specs.laws.Line.{drawn-is-reduced, digit-rows, line-short}
 use Rattle.listing.specs.laws.Front.{composed-line}
@@ -59,7 +59,8 @@ unfolding zeros
 reduced c =
     let s = c .before .before .before in
     let a = s .args in
-    subst (Reduced (a .q) (a .n) (a .k)) (sym (front c)) (drawn-is-reduced (a .q) (a .n) (a .k) (a .index .0) (s .pre .0 .settings) (s .pre .1))
+    subst (Reduced (a .q) (a .n) (a .k)) (sym (front c)) (drawn-is-reduced (a .q) (a .n) (a .k) (a .index .0) (s .pre .0 .settings)
+    (s .pre .1))
 
 numbered : (c : tie.After-rank) →
     let a = c .before .before .before .before .before .before .before .before .args in
@@ -72,7 +73,8 @@ numbered c =
 
 -- what stands behind the drawn matrix is no part of its text
 rows-of : (c : tie.After-unrank) → let a = c .before .before .before .args in
-    rowsText (a .n) (a .k) (c .unrank .last .0 ++ drop (a .k * a .n) zeros) ≡ rowsText (a .n) (a .k) (drawnExtended (a .q) (a .n) (a .k) (a .index .0))
+    rowsText (a .n) (a .k) (c .unrank .last .0 ++ drop (a .k * a .n) zeros) ≡ rowsText (a .n) (a .k)
+    (drawnExtended (a .q) (a .n) (a .k) (a .index .0))
 unfolding zeros
 rows-of c =
     let s = c .before .before .before in
@@ -86,8 +88,7 @@ rows-of c =
 line : (c : tie.After-rank) →
     let f = c .before .before .before .before .before in
     let a = f .before .before .before .args in
-    joined (numeral (a .index .0) ∷ (comma ∷ []) ∷ numeral (c .rank .result .0) ∷ (comma ∷ [])
-    ∷ rowsText (a .n) (a .k) (f .unrank .last .0 ++ drop (a .k * a .n) zeros) ∷ (lineFeed ∷ []) ∷ [])
+    joined (linePieces (a .index .0) (c .rank .result .0) (rowsText (a .n) (a .k) (f .unrank .last .0 ++ drop (a .k * a .n) zeros)))
     ≡ listingLine (a .q) (a .n) (a .k) (a .index .0)
 unfolding zeros listingLine lineText
 line c =
@@ -160,8 +161,7 @@ returns c =
     let s = f .before .before .before in
     let a = s .args in
     composed-line (a .buffer .now)
-    (numeral (a .index .0) ∷ (comma ∷ []) ∷ numeral (r .rank .result .0) ∷ (comma ∷ [])
-    ∷ rowsText (a .n) (a .k) (f .unrank .last .0 ++ drop (a .k * a .n) zeros) ∷ (lineFeed ∷ []) ∷ [])
+    (linePieces (a .index .0) (r .rank .result .0) (rowsText (a .n) (a .k) (f .unrank .last .0 ++ drop (a .k * a .n) zeros)))
     (listingLine (a .q) (a .n) (a .k) (a .index .0)) _ _ (line r)
     (omega (arith, s .pre .2, line-short (a .q) (a .n) (a .k) (a .index .0) (s .pre .0) (s .pre .1))) (p .put-space .ensures)
 

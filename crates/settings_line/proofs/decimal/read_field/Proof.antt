@@ -8,7 +8,8 @@ use Rattle.settings_line.proofs.decimal.read_field.Statement.{statement
 use Rattle.settings_line.proofs.decimal.read_field.Tie as tie
 
 read : (c : tie.After-known-told)
-    → let a = c .before .before .before .before .before .args in decimalAt (a .text .now) (a .at) (a .most) ≡ Number (c .before .read .given .0 .0)
+    → let a = c .before .before .before .before .before .args in decimalAt (a .text .now) (a .at) (a .most) ≡ Number
+    (c .before .read .given .0 .0)
 read c = sym (c .before .before .before .read-decimal .ensures) ∙ c .before .read .given .1
 
 read-decimal-requires : tie.Need-read-decimal-requires

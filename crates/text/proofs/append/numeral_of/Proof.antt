@@ -10,7 +10,8 @@ use Rattle.text.proofs.append.numeral_of.Statement.{statement}
 use Rattle.text.proofs.append.numeral_of.Tie as tie
 
 abbrev Inv-loop : tie.InvT-loop
-Inv-loop x digits₀ start₀ rest₀ digits start rest = (1 ≤ start) × (start ≤ 20) × (length digits ≡ 20) × (rest < 10 ^ start) × (numeral rest ++ drop start digits ≡ numeral x)
+Inv-loop x digits₀ start₀ rest₀ digits start rest = (1 ≤ start) × (start ≤ 20) × (length digits ≡ 20) × (rest < 10 ^ start) ×
+    (numeral rest ++ drop start digits ≡ numeral x)
 
 abbrev μ-loop : tie.MeasureT-loop
 μ-loop x digits₀ start₀ rest₀ digits start rest = rest

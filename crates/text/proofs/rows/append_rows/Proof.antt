@@ -48,7 +48,8 @@ has-room-requires c κs = search needs
 returns : tie.Need-returns Inv-loop μ-loop
 returns c =
     let a = c .before .before .before .before .before .args in
-    refused (a .buffer .now) (a .at) (rowsText (a .rows .n) (a .rows .k) (a .rows .entries)) (tested (c .before) ∙ not-true _ (c .if1 .taken))
+    refused (a .buffer .now) (a .at) (rowsText (a .rows .n) (a .rows .k) (a .rows .entries))
+    (tested (c .before) ∙ not-true _ (c .if1 .taken))
 
 loop-holds : tie.Need-loop-holds Inv-loop μ-loop
 loop-holds c =
@@ -82,7 +83,8 @@ loop-again c =
       omega arith,
       simp length-set (l .loop .inv .1),
       ap₂ (λ b x. set b (a .at + l .loop .place) x) (l .loop .inv .2) (c .rows-byte .ensures)
-          ∙ rw add-one (paste-suc (a .buffer .now) (a .at) text (l .loop .place) 0 (omega (arith, room (l .before))) (omega (arith, whole s))),
+          ∙ rw add-one (paste-suc (a .buffer .now) (a .at) text (l .loop .place) 0 (omega (arith, room (l .before)))
+          (omega (arith, whole s))),
     )
 
 add-t10 : tie.Need-add-t10 Inv-loop μ-loop

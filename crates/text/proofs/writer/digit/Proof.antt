@@ -1,4 +1,5 @@
--- `text::writer::digit` meets its contract: the walk of `Thin.antt`, with `append_digit` for its callee, of which the proof knows only the contract.
+-- `text::writer::digit` meets its contract: the walk of `Thin.antt`, with `append_digit` for its callee, of which the proof knows only the
+-- contract.
 -- Assumes nothing.
 use mathlib.Core.Path.{refl}
 use mathlib.Core.List.{[], _∷_}

@@ -1,4 +1,5 @@
--- `text::writer::number` meets its contract: the walk of `Thin.antt`, with `append_number` for its callee, of which the proof knows only the contract.
+-- `text::writer::number` meets its contract: the walk of `Thin.antt`, with `append_number` for its callee, of which the proof knows only
+-- the contract.
 -- Assumes nothing.
 use mathlib.Core.Path.{refl}
 use mir.Syntax.{w64, tyInt}
