@@ -1,5 +1,4 @@
 // The lines, each put together by a line writer. From a buffer to a writer and back: the contracts say nothing of a writer.
-ghost use mathlib.Core.Path.{_≡_};
 ghost use mathlib.Core.List.{[], _∷_};
 ghost use Rattle.text.specs.Text.{comma, lineFeed, numeral};
 ghost use Rattle.text.specs.Piece.{Composed};

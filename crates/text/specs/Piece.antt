@@ -7,7 +7,7 @@
 --   joined pieces       == the pieces, one after the other
 --   placeWith, bufferWith == the place and the buffer after several pieces, each put in where it fits
 --   Composed            == what a function that puts a line together answers and leaves: how far the buffer is filled, and the buffer
--- Theorems has what these come to: `piece-fits`, `piece-put`, `piece-refused` and `pieces-put`.
+-- Theorems has what these come to: `piece-fits`, `piece-put` and `piece-refused`.
 -- Assumes nothing.
 use mathlib.Core.Path.{_≡_}
 use mathlib.Core.Bool.{Bool}

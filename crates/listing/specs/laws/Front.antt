@@ -10,7 +10,7 @@ use native.Mathlib.Omega.{arith}
 use lib.ListN.{length, take, drop, length-append, length-drop, take-append-drop}
 use lib.Seq.{drop-drop, drop-append-le}
 use Rattle.text.specs.Piece.{joined, Composed}
-use Rattle.text.specs.Theorems.{pieces-put}
+use Rattle.text.specs.laws.Piece.{pieces-put}
 use Rattle.listing.specs.Front.{written}
 
 pub written-length : (start s : List ℕ) → length s ≤ length start → length (written s start) ≡ length start

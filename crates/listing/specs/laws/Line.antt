@@ -5,7 +5,7 @@
 --   line-nonempty == no line is empty
 --   digit-rows   == the drawn matrix is one of decimal digits, as its text asks, whatever stands behind it
 -- Assumes nothing.
-use mathlib.Core.Path.{_≡_, ap, _∙_, sym}
+use mathlib.Core.Path.{_≡_, ap, _∙_}
 use mathlib.Core.List.{List, [], _∷_, _++_}
 use mathlib.Core.Logic.{⊎-elim}
 use Prim.Native.Nat.{ℕ, _+_, _*_, _≤_, _<_}

@@ -3,21 +3,22 @@
 --   room-decided       == the code's two tests of the room are the one of `fits`
 --   bufferAfter-length, bufferWith-length == the buffer stays as long as it is
 --   with-room          == pieces that have room together stand one after the other
+--   pieces-put         == so at the buffer's front, with the rest as it was
 -- Assumes nothing.
 use mathlib.Core.Path.{_≡_, refl, ap, ap₂, _∙_, sym}
 use mathlib.Core.Bool.{Bool, true, false}
 use mathlib.Core.List.{List, [], _∷_, _++_, append-assoc}
 use mathlib.Core.Logic.{⊎-elim}
 use Prim.Native.Nat.{ℕ, _+_, _-_, _≤_}
-use native.Mathlib.Nat.{add-zero, add-assoc, le-refl}
+use native.Mathlib.Nat.{add-zero, zero-add, add-assoc, le-refl}
 use native.Mathlib.Omega.{arith}
-use borrow.Author.Tests.{le-leb, lt-leb, leb-true}
+use borrow.Author.Tests.{le-leb, lt-leb}
 use lib.Dec.{leb}
 use lib.ListN.{length, take, drop, length-append}
 use lib.Seq.{paste, paste-zero, take-paste, drop-paste, drop-drop, take-length, length-paste}
 use Rattle.basics.specs.Order.{le-or-lt}
-use Rattle.text.specs.Piece.{fits, placeAfter, bufferAfter, joined, placeWith, bufferWith, Appended}
-use Rattle.text.specs.declared.append.Put.{Put}
+use Rattle.text.specs.Piece.{fits, placeAfter, bufferAfter, joined, placeWith, bufferWith, Appended, Composed}
+use Rattle.text.specs.Theorems.{piece-fits, fits-piece}
 
 module _ (buffer : List ℕ) (at : ℕ) (piece : List ℕ) where
   pub refused : fits (length buffer) at piece ≡ false → Appended buffer at piece (record { at = at; fits = false }) buffer
@@ -41,7 +42,7 @@ bufferAfter-length buffer at piece = cases (fits (length buffer) at piece) refl
     cases false e = ap length (sym (refused buffer at piece e .2))
     cases true e =
         ap length (sym (fitted buffer at piece e .2))
-        ∙ length-paste buffer at piece (length piece) (leb-true (at + length piece) (length buffer) e) (le-refl (length piece))
+        ∙ length-paste buffer at piece (length piece) (fits-piece (length buffer) at piece e) (le-refl (length piece))
 
 pub bufferWith-length : (buffer : List ℕ) (at : ℕ) (pieces : List (List ℕ)) → length (bufferWith buffer at pieces) ≡ length buffer
 bufferWith-length buffer at [] = refl
@@ -66,8 +67,16 @@ with-room b at [] h = (sym (add-zero at), paste-zero b at [])
 with-room b at (p ∷ pieces) h =
     let c = joined pieces in
     let sum : length (p ++ c) ≡ length p + length c = length-append p c in
-    let f = fitted b at p (le-leb (at + length p) (length b) (omega arith)) in
+    let f = fitted b at p (piece-fits (length b) at p (omega arith)) in
     let more = with-room (bufferAfter b at p) (placeAfter (length b) at p) pieces (omega (arith, bufferAfter-length b at p, f .0)) in (
       more .0 ∙ omega (arith, f .0),
       more .1 ∙ ap₂ (λ x y. paste x y c (length c)) (sym (f .2)) (sym (f .0)) ∙ paste-paste b at p c (omega arith),
+    )
+
+pub pieces-put : (buffer : List ℕ) (pieces : List (List ℕ)) (size : ℕ) (after : List ℕ) → length (joined pieces) ≤ length buffer
+    → Composed buffer pieces size after → (size ≡ length (joined pieces)) × (after ≡ joined pieces ++ drop (length (joined pieces)) buffer)
+pieces-put buffer pieces size after h c =
+    let r = with-room buffer 0 pieces (rw (zero-add (length (joined pieces))) h) in (
+      c .0 ∙ r .0 ∙ zero-add (length (joined pieces)),
+      c .1 ∙ r .1 ∙ ap₂ (λ p i. p ++ drop i buffer) (take-length (joined pieces)) (zero-add (length (joined pieces))),
     )

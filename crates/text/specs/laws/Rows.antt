@@ -8,7 +8,7 @@
 --   rowsText-front  == what stands behind the k rows is no part of the text
 -- Assumes nothing.
 use mathlib.Core.Path.{_≡_, refl, ap, ap₂, _∙_, sym}
-use mathlib.Core.List.{List, [], _∷_, _++_}
+use mathlib.Core.List.{List, _∷_, _++_}
 use mathlib.Core.Logic.{⊎-elim}
 use Prim.Native.Nat.{ℕ, zero, suc, _+_, _*_, _-_, _/_, _%_, _≤_, _<_}
 use native.Mathlib.Nat.{mul-suc, suc-mul, mul-le-mul, mul-le-mul-right, lt-of-mul-lt-mul-right, div-add-mod', add-zero}

@@ -3,7 +3,6 @@
 use mathlib.Core.Path.{ap, sym}
 use mathlib.Core.List.{[], _∷_, _++_}
 use native.Mathlib.Omega.{arith}
-use lib.ListN.{length}
 use lib.Seq.{length-take-le}
 use Rattle.text.specs.Text.{lineFeed}
 use Rattle.text.specs.Word.{letters}
