@@ -13,7 +13,7 @@
 -- Assumes nothing.
 use mathlib.Core.Bool.{Bool, true, false, _&&_}
 use mathlib.Core.List.{List, [], _++_}
-use Prim.Native.Nat.{ℕ, zero, suc, _+_, _-_}
+use Prim.Native.Nat.{ℕ, zero, suc, _+_, _*_, _-_}
 use lib.Dec.{eqb, ltb}
 use Rattle.refusal.specs.Refusal.{line as lineRefusal}
 use Rattle.counts.specs.Gaussian.{gaussian}
@@ -21,6 +21,7 @@ use Rattle.settings_line.specs.SettingsLine.{parsed}
 use Rattle.settings_line.specs.declared.Settings.{Settings}
 use Rattle.settings_line.specs.declared.Parsed.{Parsed}
 use Rattle.settings_line.specs.declared.Parsed.the-variants.{Settings as settings, Malformed}
+use Rattle.listing.specs.Line.{lineRoom}
 use Rattle.listing.specs.Listing.{listRefusal, linesFrom, header, refusedLine}
 use Rattle.listing.specs.declared.Progress.{Progress}
 use Rattle.listing.specs.declared.State.{State}
@@ -30,7 +31,7 @@ abbrev pub chunkLines : ℕ
 chunkLines = 64
 
 abbrev pub chunkSize : ℕ
-chunkSize = 20480
+chunkSize = chunkLines * lineRoom
 
 abbrev pub mostSteps : ℕ
 mostSteps = 1026

@@ -32,7 +32,7 @@ use Rattle.listing.specs.laws.Listing.{listable, lines-append}
 use Rattle.listing.specs.laws.Line.{line-short, line-nonempty}
 use Rattle.listing.specs.laws.Steps.{countOf, live-is, end-within, remaining-live, remaining-dead, remaining-from, chunk-live}
 use Rattle.listing.specs.laws.Steps.{chunk-dead, next-live, next-dead, past-dead}
-use Rattle.listing.specs.Steps.{mostSteps, live, linesEnd, progressTo, started, remainingLines, remaining, begunFor, begun}
+use Rattle.listing.specs.Steps.{chunkLines, mostSteps, live, linesEnd, progressTo, started, remainingLines, remaining, begunFor, begun}
 use Rattle.listing.specs.Steps.{linesChunk, chunkOf, linesNext, nextState, stateAfter, chunks}
 use Rattle.listing.specs.declared.Progress.{Progress}
 use Rattle.listing.specs.declared.State.{State}
@@ -111,11 +111,11 @@ unfolding stateAfter
 after-step m s = refl
 
 -- m chunks of 64 lines are enough for what is left
-after-lines : (m : ℕ) (p : Progress) → countOf p - p .index .0 ≤ m * 64 → stateAfter (suc m) (Lines p) ≡ Done
+after-lines : (m : ℕ) (p : Progress) → countOf p - p .index .0 ≤ m * chunkLines → stateAfter (suc m) (Lines p) ≡ Done
 after-lines zero p h = after-step 0 (Lines p) ∙ ap (stateAfter 0) (next-dead p (past-dead p (omega arith))) ∙ after-done 0
 after-lines (suc m) p h = after-step (suc m) (Lines p) ∙ cases (live p) refl (λ p g. after-lines m p g)
   where
-    cases : (b : Bool) → live p ≡ b → ((r : Progress) → countOf r - r .index .0 ≤ m * 64 → stateAfter (suc m) (Lines r) ≡ Done)
+    cases : (b : Bool) → live p ≡ b → ((r : Progress) → countOf r - r .index .0 ≤ m * chunkLines → stateAfter (suc m) (Lines r) ≡ Done)
         → stateAfter (suc m) (linesNext p) ≡ Done
     cases false e ih = ap (stateAfter (suc m)) (next-dead p e) ∙ after-done (suc m)
     cases true e ih =
@@ -130,7 +130,7 @@ pub finished : (s : State) → stateAfter mostSteps s ≡ Done
 finished (Header x) = after-step 1025 (Header x) ∙ after-any 1024 (started x) (live (started x)) refl (omega arith)
 finished (Lines p) = after-any 1025 p (live p) refl (omega arith)
 finished (Refused r) = after-step 1025 (Refused r) ∙ after-done 1025
-finished Done = after-done 1026
+finished Done = after-done mostSteps
 
 chunks-remaining : (m : ℕ) (s : State) → chunks m s ++ remaining (stateAfter m s) ≡ remaining s
 unfolding chunks stateAfter

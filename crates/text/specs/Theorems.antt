@@ -3,7 +3,7 @@
 --   piece-put         == a piece that fits stands whole behind the filled bytes, every other byte is as it was, and the place moves past it
 --   piece-refused     == one that is a byte too long, or longer, leaves the buffer and the place as they were, and this is what is said
 -- Assumes nothing.
-use mathlib.Core.Path.{_≡_, ap, _∙_}
+use mathlib.Core.Path.{_≡_, ap}
 use mathlib.Core.Bool.{true, false}
 use mathlib.Core.List.{List, _++_}
 use Prim.Native.Nat.{ℕ, _+_, _≤_, _<_}

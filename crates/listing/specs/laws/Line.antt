@@ -6,7 +6,7 @@
 --   digit-rows   == the drawn matrix is one of decimal digits, as its text asks, whatever stands behind it
 -- Assumes nothing.
 use mathlib.Core.Path.{_≡_, ap, _∙_}
-use mathlib.Core.List.{List, [], _∷_, _++_}
+use mathlib.Core.List.{List, _++_}
 use mathlib.Core.Logic.{⊎-elim}
 use Prim.Native.Nat.{ℕ, _+_, _*_, _≤_, _<_}
 use native.Mathlib.Nat.{mul-le-mul}
@@ -22,21 +22,18 @@ use Rattle.extended.specs.Ranked.{drawnExtended}
 use Rattle.extended.specs.Theorems.{drawn-reduced}
 use Rattle.ferrers.specs.Ferrers.{ferrersIndex}
 use Rattle.ferrers.specs.Theorems.{index-below-count}
-use Rattle.text.specs.Text.{comma, lineFeed, numeral}
+use Rattle.text.specs.Text.{numeral}
 use Rattle.text.specs.Rows.{DigitRows, rowsText}
 use Rattle.text.specs.laws.Numeral.{numeral-length}
 use Rattle.text.specs.laws.Rows.{rowsText-length}
 use Rattle.listing.specs.Line.{longestLine, lineText}
-use Rattle.listing.specs.Listing.{listingLine}
+use Rattle.listing.specs.Listing.{greatestListing, listingLine}
 use Rattle.listing.specs.laws.Listing.{Listable}
 
 pub lineText-length : (extended ferrers n k : ℕ) (m : List ℕ)
     → length (lineText extended ferrers n k m) ≡ length (numeral extended) + length (numeral ferrers) + length (rowsText n k m) + 3
 unfolding lineText
-lineText-length extended ferrers n k m =
-    let rows = rowsText n k m in
-    length-append (numeral extended) (comma ∷ (numeral ferrers ++ (comma ∷ (rows ++ (lineFeed ∷ [])))))
-    ∙ omega (arith, length-append (numeral ferrers) (comma ∷ (rows ++ (lineFeed ∷ []))), length-append rows (lineFeed ∷ []))
+lineText-length extended ferrers n k m = simp length-append (omega arith)
 
 pub line-nonempty : (q n k i : ℕ) → 1 ≤ length (listingLine q n k i)
 unfolding listingLine
@@ -68,7 +65,7 @@ pub line-short : (q n k i : ℕ) → Listable q n k → i < gaussian q n k → l
 unfolding listingLine
 line-short q n k i l inside =
     let a = l .settings in
-    let few : gaussian q n k ≤ 65536 = l .few in
+    let few : gaussian q n k ≤ greatestListing = l .few in
     let narrow : n ≤ 16 = a .narrow in
     let dimension : k ≤ n = a .dimension in
     let m = drawnExtended q n k i in

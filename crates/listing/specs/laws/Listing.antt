@@ -42,7 +42,7 @@ module _ (q n k : ℕ) where
       let s = first-zero (settingsRefusal q n k) (refuseUnless (leb (gaussian q n k) greatestListing) listingRefusal ∷ []) e in
       record {
         settings = accepted q n k (s .0);
-        few = leb-true (gaussian q n k) greatestListing (test-zero (leb (gaussian q n k) greatestListing) 11 [] (s .1) .0);
+        few = leb-true (gaussian q n k) greatestListing (test-zero (leb (gaussian q n k) greatestListing) _ [] (s .1) .0);
       }
 
   pub lines-append : (i a b : ℕ) → linesFrom q n k i (a + b) ≡ linesFrom q n k i a ++ linesFrom q n k (i + a) b

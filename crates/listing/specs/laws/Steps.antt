@@ -24,7 +24,7 @@ use Rattle.settings_line.specs.SettingsLine.{parsed}
 use Rattle.settings_line.specs.declared.Settings.{Settings}
 use Rattle.settings_line.specs.declared.Parsed.the-variants.{Settings as settings, Malformed}
 use Rattle.listing.specs.Listing.{listRefusal, linesFrom}
-use Rattle.listing.specs.Steps.{live, linesEnd, progressTo, remainingLines, begunFor, begun, linesChunk, linesNext, nextState}
+use Rattle.listing.specs.Steps.{chunkLines, live, linesEnd, progressTo, remainingLines, begunFor, begun, linesChunk, linesNext, nextState}
 use Rattle.listing.specs.Steps.{stateAfter}
 use Rattle.listing.specs.Front.{written}
 use Rattle.listing.specs.declared.Progress.{Progress}
@@ -63,20 +63,20 @@ past-dead p h = rw (le-ltb (p .index .0) (countOf p) h) (and-false (eqb (refusal
     and-false true = refl
     and-false false = refl
 
-pub end-short : (count i : ℕ) → count - i < 64 → linesEnd count i ≡ count
+pub end-short : (count i : ℕ) → count - i < chunkLines → linesEnd count i ≡ count
 unfolding linesEnd
-end-short count i h = rw (lt-ltb (count - i) 64 h, linesEnd)
+end-short count i h = rw (lt-ltb (count - i) chunkLines h, linesEnd)
 
-pub end-long : (count i : ℕ) → 64 ≤ count - i → linesEnd count i ≡ i + 64
+pub end-long : (count i : ℕ) → chunkLines ≤ count - i → linesEnd count i ≡ i + chunkLines
 unfolding linesEnd
-end-long count i h = rw (le-ltb (count - i) 64 h, linesEnd)
+end-long count i h = rw (le-ltb (count - i) chunkLines h, linesEnd)
 
 -- the end of the chunk lies past the index, within the count, at most 64 further, and all or 64 lines are listed
 pub end-within : (count i : ℕ) → i < count
-    → (i < linesEnd count i) × (linesEnd count i ≤ count) × (linesEnd count i ≤ i + 64) × (count - linesEnd count i ≤ count - i - 64)
+    → (i < linesEnd count i) × (linesEnd count i ≤ count) × (linesEnd count i ≤ i + chunkLines) × (count - linesEnd count i ≤ count - i - chunkLines)
 end-within count i h =
     ⊎-elim (λ long. rw (end-long count i long) (omega arith, omega arith, omega arith, omega arith))
-    (λ short. rw (end-short count i short) (h, omega arith, omega arith, omega arith)) (le-or-lt 64 (count - i))
+    (λ short. rw (end-short count i short) (h, omega arith, omega arith, omega arith)) (le-or-lt chunkLines (count - i))
 
 pub remaining-live : (p : Progress) → live p ≡ true → remainingLines p ≡ linesFrom (p .q) (p .n) (p .k) (p .index .0)
     (countOf p - p .index .0)

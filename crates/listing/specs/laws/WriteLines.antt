@@ -12,7 +12,9 @@ use native.Mathlib.Omega.{arith}
 use lib.ListN.{length, take, drop, length-append, length-drop}
 use lib.Seq.{take-at, drop-at, length-take-le}
 use Rattle.counts.specs.Gaussian.{gaussian}
+use Rattle.listing.specs.Line.{lineRoom, longestLine}
 use Rattle.listing.specs.Listing.{listingLine, linesFrom}
+use Rattle.listing.specs.Steps.{chunkLines, chunkSize}
 use Rattle.listing.specs.laws.Listing.{Listable, lines-more}
 use Rattle.listing.specs.laws.Line.{line-short}
 use Rattle.listing.specs.Front.{written}
@@ -24,7 +26,7 @@ pub record Filling (q n k from to : ℕ) (start buffer : List ℕ) (at index : �
   pub place : at ≡ length (linesFrom q n k from (index - from))
   pub holds : buffer ≡ written (linesFrom q n k from (index - from)) start
 
-pub lines-short : (q n k i m : ℕ) → Listable q n k → i + m ≤ gaussian q n k → length (linesFrom q n k i m) ≤ m * 276
+pub lines-short : (q n k i m : ℕ) → Listable q n k → i + m ≤ gaussian q n k → length (linesFrom q n k i m) ≤ m * longestLine
 unfolding linesFrom
 lines-short q n k i zero l h = omega arith
 lines-short q n k i (suc m) l h =
@@ -43,8 +45,8 @@ filling-start q n k from to start h =
     }
 
 module _ (q n k from to : ℕ) (start buffer : List ℕ) (at index : ℕ) (f : Filling q n k from to start buffer at index)
-    (l : Listable q n k) (inside : to ≤ gaussian q n k) (few : to - from ≤ 64) (room : 20480 ≤ length start) where
-  pub filling-small : at ≤ (index - from) * 276
+    (l : Listable q n k) (inside : to ≤ gaussian q n k) (few : to - from ≤ chunkLines) (room : chunkSize ≤ length start) where
+  pub filling-small : at ≤ (index - from) * longestLine
   filling-small =
       let above : from ≤ index = f .above in
       let below : index ≤ to = f .below in
@@ -59,13 +61,13 @@ module _ (q n k from to : ℕ) (start buffer : List ℕ) (at index : ℕ) (f : F
       ap length (f .holds) ∙ written-length start (linesFrom q n k from (index - from)) (omega (arith, filling-small))
 
   -- w bytes, which are 320, are lent to the next line
-  module _ (w : ℕ) (lent : w ≡ 320) (more : index < to) where
-    pub filling-room : (at + 320 ≤ length buffer) × (length (take w (drop at buffer)) ≡ 320)
+  module _ (w : ℕ) (lent : w ≡ lineRoom) (more : index < to) where
+    pub filling-room : (at + lineRoom ≤ length buffer) × (length (take w (drop at buffer)) ≡ lineRoom)
     filling-room =
         let above : from ≤ index = f .above in
         let size = filling-length in
         let far = filling-small in
-        let room-left : at + 320 ≤ length buffer = omega arith in
+        let room-left : at + lineRoom ≤ length buffer = omega arith in
         (room-left, length-take-le w (drop at buffer) (omega (arith, length-drop at buffer)) ∙ lent)
 
     pub filling-more : (size : ℕ) (part : List ℕ) → size ≡ length (listingLine q n k index)

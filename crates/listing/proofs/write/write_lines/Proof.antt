@@ -5,6 +5,8 @@ use mathlib.Core.Path.{_≡_, refl}
 use Prim.Native.Nat.{_+_, _-_, _≤_}
 use native.Mathlib.Omega.{arith}
 use lib.ListN.{length}
+use Rattle.listing.specs.Line.{lineRoom}
+use Rattle.listing.specs.Steps.{chunkSize}
 use Rattle.listing.specs.laws.Line.{line-short}
 use Rattle.listing.specs.laws.WriteLines.{Filling, filling-start, filling-small, filling-length, filling-room, filling-more}
 use Rattle.listing.specs.laws.WriteLines.{filling-end}
@@ -18,13 +20,13 @@ abbrev μ-loop : tie.MeasureT-loop
 μ-loop buffer₀ q n k last at₀ index₀ buffer at index = last - index
 
 -- there are 320 bytes for the next line
-room : (c : tie.In-loop Inv-loop μ-loop) → c .before .loop .at + 320 ≤ length (c .before .loop .buffer)
+room : (c : tie.In-loop Inv-loop μ-loop) → c .before .loop .at + lineRoom ≤ length (c .before .loop .buffer)
 room c =
     let s = c .before .before .before in
-    filling-room _ _ _ _ _ _ _ _ _ (c .before .loop .inv) (s .pre .0) (s .pre .2) (s .pre .3) (s .pre .4) 320 refl (c .loop-test .taken) .0
+    filling-room _ _ _ _ _ _ _ _ _ (c .before .loop .inv) (s .pre .0) (s .pre .2) (s .pre .3) (s .pre .4) lineRoom refl (c .loop-test .taken) .0
 
 -- how far the buffer is filled
-small : (c : tie.In-loop Inv-loop μ-loop) → c .before .loop .at ≤ 20480
+small : (c : tie.In-loop Inv-loop μ-loop) → c .before .loop .at ≤ chunkSize
 small c =
     let s = c .before .before .before in
     let f = c .before .loop .inv in
@@ -50,7 +52,7 @@ write-space-requires c κs =
     let l = c .before .before in
     let s = l .before .before in
     let test = c .before .loop-test .taken in
-    let lent : l .loop .at + 320 - l .loop .at ≡ 320 = omega arith in (
+    let lent : l .loop .at + lineRoom - l .loop .at ≡ lineRoom = omega arith in (
       s .pre .0,
       omega (arith, s .pre .2, test),
       omega (arith, filling-room _ _ _ _ _ _ _ _ _ (l .loop .inv) (s .pre .0) (s .pre .2) (s .pre .3) (s .pre .4) _ lent test .1),
@@ -81,7 +83,7 @@ loop-again c =
     let w = c .before .before in
     let l = w .before .before .before in
     let s = l .before .before in
-    let lent : l .loop .at + 320 - l .loop .at ≡ 320 = omega arith in
+    let lent : l .loop .at + lineRoom - l .loop .at ≡ lineRoom = omega arith in
     filling-more _ _ _ _ _ _ _ _ _ (l .loop .inv) (s .pre .0) (s .pre .2) (s .pre .3) (s .pre .4) _ lent
     (w .before .before .loop-test .taken) _ _
     (w .write-space .ensures .0) (w .write-space .ensures .1)
