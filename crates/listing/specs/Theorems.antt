@@ -32,7 +32,8 @@ use Rattle.listing.specs.laws.Listing.{listable, lines-append}
 use Rattle.listing.specs.laws.Line.{line-short, line-nonempty}
 use Rattle.listing.specs.laws.Steps.{countOf, live-is, end-within, remaining-live, remaining-dead, remaining-from, chunk-live}
 use Rattle.listing.specs.laws.Steps.{chunk-dead, next-live, next-dead, past-dead}
-use Rattle.listing.specs.Steps.{chunkLines, mostSteps, live, linesEnd, progressTo, started, remainingLines, remaining, begunFor, begun}
+use Rattle.listing.specs.Steps.{chunkLines, mostSteps, live, linesEnd, progressTo, started, remainingLines, remaining, begunFor}
+use Rattle.listing.specs.Steps.{begun}
 use Rattle.listing.specs.Steps.{linesChunk, chunkOf, linesNext, nextState, stateAfter, chunks}
 use Rattle.listing.specs.declared.Progress.{Progress}
 use Rattle.listing.specs.declared.State.{State}

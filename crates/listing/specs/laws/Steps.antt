@@ -24,7 +24,8 @@ use Rattle.settings_line.specs.SettingsLine.{parsed}
 use Rattle.settings_line.specs.declared.Settings.{Settings}
 use Rattle.settings_line.specs.declared.Parsed.the-variants.{Settings as settings, Malformed}
 use Rattle.listing.specs.Listing.{listRefusal, linesFrom}
-use Rattle.listing.specs.Steps.{chunkLines, live, linesEnd, progressTo, remainingLines, begunFor, begun, linesChunk, linesNext, nextState}
+use Rattle.listing.specs.Steps.{chunkLines, live, linesEnd, progressTo, remainingLines, begunFor, begun, linesChunk, linesNext}
+use Rattle.listing.specs.Steps.{nextState}
 use Rattle.listing.specs.Steps.{stateAfter}
 use Rattle.listing.specs.Front.{written}
 use Rattle.listing.specs.declared.Progress.{Progress}
@@ -73,7 +74,8 @@ end-long count i h = rw (le-ltb (count - i) chunkLines h, linesEnd)
 
 -- the end of the chunk lies past the index, within the count, at most 64 further, and all or 64 lines are listed
 pub end-within : (count i : ℕ) → i < count
-    → (i < linesEnd count i) × (linesEnd count i ≤ count) × (linesEnd count i ≤ i + chunkLines) × (count - linesEnd count i ≤ count - i - chunkLines)
+    → (i < linesEnd count i) × (linesEnd count i ≤ count) × (linesEnd count i ≤ i + chunkLines) ×
+    (count - linesEnd count i ≤ count - i - chunkLines)
 end-within count i h =
     ⊎-elim (λ long. rw (end-long count i long) (omega arith, omega arith, omega arith, omega arith))
     (λ short. rw (end-short count i short) (h, omega arith, omega arith, omega arith)) (le-or-lt chunkLines (count - i))

@@ -23,7 +23,8 @@ abbrev μ-loop : tie.MeasureT-loop
 room : (c : tie.In-loop Inv-loop μ-loop) → c .before .loop .at + lineRoom ≤ length (c .before .loop .buffer)
 room c =
     let s = c .before .before .before in
-    filling-room _ _ _ _ _ _ _ _ _ (c .before .loop .inv) (s .pre .0) (s .pre .2) (s .pre .3) (s .pre .4) lineRoom refl (c .loop-test .taken) .0
+    filling-room _ _ _ _ _ _ _ _ _ (c .before .loop .inv) (s .pre .0) (s .pre .2) (s .pre .3) (s .pre .4) lineRoom refl
+    (c .loop-test .taken) .0
 
 -- how far the buffer is filled
 small : (c : tie.In-loop Inv-loop μ-loop) → c .before .loop .at ≤ chunkSize
