@@ -1,12 +1,12 @@
--- What the list program writes. Document 01: "List, the program: 11 if the input isn't one line `q,n,k` ..; 1, 2, 3; 12 if N exceeds 65,536.
--- A refusal prints one line, `refused,` and the number, ended by a line feed." "Fields: extended index, Ferrers index, rows as digits with `/`
--- between rows. Lines rise by extended index."
+-- What the list program writes. Document 01: "List, the program: 11 if the input isn't one line `q,n,k` ..; 1, 2, 3; 12 if N exceeds
+-- 65,536. A refusal prints one line, `refused,` and the number, ended by a line feed." "Fields: extended index, Ferrers index, rows as
+-- digits with `/` between rows. Lines rise by extended index."
 --   greatestListing        == 65,536
 --   listRefusal q n k      == the first of 1, 2, 3, 12 that applies, else 0
 --   listingLine q n k i    == the line of the space with the extended index i
 --   linesFrom q n k i m    == the lines of the m extended indexes from i on, rising
---   header                 == "extended,ferrers,rows" and a line feed
---   refusedWord, refusedLine r == "refused,"; this, the number r and a line feed
+--   fieldNames, header     == "extended,ferrers,rows"; this and a line feed
+--   refusedWord, refusedLine r == "refused"; this, a comma, the number r and a line feed
 --   listingOutput input    == all that the program writes for the bytes of its input
 -- Assumes nothing.
 use mathlib.Core.Bool.{true, false}
@@ -18,11 +18,11 @@ use Rattle.counts.specs.Gaussian.{gaussian}
 use Rattle.settings.specs.Settings.{settingsRefusal}
 use Rattle.extended.specs.Ranked.{drawnExtended}
 use Rattle.ferrers.specs.Ferrers.{ferrersIndex}
-use Rattle.text.specs.Text.{lineFeed, numeral}
-use Rattle.text.specs.Line.{lineText}
+use Rattle.text.specs.Text.{comma, lineFeed, numeral}
 use Rattle.settings_line.specs.SettingsLine.{parsed}
 use Rattle.settings_line.specs.declared.Parsed.{Parsed}
 use Rattle.settings_line.specs.declared.Parsed.the-variants.{Settings as settings, Malformed}
+use Rattle.listing.specs.Line.{lineText}
 
 abbrev pub greatestListing : ℕ
 greatestListing = 65536
@@ -37,15 +37,17 @@ unfoldable pub linesFrom : ℕ → ℕ → ℕ → ℕ → ℕ → List ℕ
 linesFrom q n k i zero = []
 linesFrom q n k i (suc m) = listingLine q n k i ++ linesFrom q n k (suc i) m
 
+unfoldable pub fieldNames : List ℕ
+fieldNames = 101 ∷ 120 ∷ 116 ∷ 101 ∷ 110 ∷ 100 ∷ 101 ∷ 100 ∷ 44 ∷ 102 ∷ 101 ∷ 114 ∷ 114 ∷ 101 ∷ 114 ∷ 115 ∷ 44 ∷ 114 ∷ 111 ∷ 119 ∷ 115 ∷ []
+
 unfoldable pub header : List ℕ
-header =
-    101 ∷ 120 ∷ 116 ∷ 101 ∷ 110 ∷ 100 ∷ 101 ∷ 100 ∷ 44 ∷ 102 ∷ 101 ∷ 114 ∷ 114 ∷ 101 ∷ 114 ∷ 115 ∷ 44 ∷ 114 ∷ 111 ∷ 119 ∷ 115 ∷ 10 ∷ []
+header = fieldNames ++ (lineFeed ∷ [])
 
 unfoldable pub refusedWord : List ℕ
-refusedWord = 114 ∷ 101 ∷ 102 ∷ 117 ∷ 115 ∷ 101 ∷ 100 ∷ 44 ∷ []
+refusedWord = 114 ∷ 101 ∷ 102 ∷ 117 ∷ 115 ∷ 101 ∷ 100 ∷ []
 
 unfoldable pub refusedLine : ℕ → List ℕ
-refusedLine r = refusedWord ++ numeral r ++ (lineFeed ∷ [])
+refusedLine r = refusedWord ++ (comma ∷ (numeral r ++ (lineFeed ∷ [])))
 
 abbrev pub outputFor : Parsed → List ℕ
 outputFor Malformed = refusedLine lineRefusal

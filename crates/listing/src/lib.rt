@@ -1,12 +1,14 @@
 // The listing of all spaces of some settings, written chunk by chunk.
+mod line;
 mod write;
 
 ghost use mathlib.Core.Path.{_≡_};
 ghost use Prim.Native.Nat.{_≤_};
 ghost use lib.ListN.{length};
 ghost use Rattle.listing.specs.Listing.{listRefusal};
-ghost use Rattle.listing.specs.Steps.{linesEnd, begun, linesChunk, linesNext, chunkOf, nextState};
-ghost use Rattle.listing.specs.Pieces.{written};
+ghost use Rattle.listing.specs.Steps.{chunkSize, linesEnd, begun, linesChunk, linesNext, chunkOf, nextState};
+ghost use Rattle.listing.specs.Front.{written};
+use extended::ExtendedIndex;
 use settings_line::Parsed;
 use settings_line::Settings;
 
@@ -15,7 +17,7 @@ pub struct Progress {
     pub q: u64,
     pub n: u64,
     pub k: u64,
-    pub index: u64,
+    pub index: ExtendedIndex,
 }
 
 // What is still to be written.
@@ -33,6 +35,9 @@ const GREATEST_LISTING: u64 = 65536;
 const CHUNK_LINES: u64 = 64;
 
 pub const CHUNK_SIZE: usize = 20480;
+
+// So many steps end every listing: the header, 1,024 chunks of lines, and the empty chunk that ends it.
+pub const MOST_STEPS: u64 = 1026;
 
 // The first of the refusals 1, 2, 3, 12 that applies to the settings; 0 where none does.
 pub fn list_refusal(q: u64, n: u64, k: u64) -> u32
@@ -64,14 +69,14 @@ pub fn begin(input: &[u8]) -> State
 }
 
 // The index up to which the next chunk lists.
-fn lines_end(count: u64, index: u64) -> u64
-    requires { ⌜ index ≤ count ⌝ }
-    ensures { λ r. ⌜ r ≡ linesEnd count index ⌝ }
+fn lines_end(count: u64, index: ExtendedIndex) -> ExtendedIndex
+    requires { ⌜ index .0 ≤ count ⌝ }
+    ensures { λ r. ⌜ r .0 ≡ linesEnd count (index .0) ⌝ }
 {
-    if count - index < CHUNK_LINES {
-        return count;
+    if count - index.0 < CHUNK_LINES {
+        return ExtendedIndex(count);
     }
-    index + CHUNK_LINES
+    ExtendedIndex(index.0 + CHUNK_LINES)
 }
 
 // What a step answers: the state after it, and how many bytes of the chunk it wrote.
@@ -82,7 +87,7 @@ pub struct Stepped {
 
 // A step among the lines.
 fn lines_step(progress: Progress, chunk: &mut [u8]) -> Stepped
-    requires { ⌜ length (now chunk) ≡ 20480 ⌝ }
+    requires { ⌜ length (now chunk) ≡ chunkSize ⌝ }
     ensures { λ r. ⌜ (r .state ≡ linesNext progress) × (r .size ≡ length (linesChunk progress))
         × (now (chunk .exit) ≡ written (linesChunk progress) (now (chunk .entry))) ⌝ }
 {
@@ -97,7 +102,7 @@ fn lines_step(progress: Progress, chunk: &mut [u8]) -> Stepped
         };
     }
     let count = counts::coefficient(q, n, k);
-    if count <= index {
+    if count <= index.0 {
         return Stepped {
             state: State::Done,
             size: 0,
@@ -124,7 +129,7 @@ pub fn step(state: State, chunk: &mut [u8; CHUNK_SIZE]) -> Stepped
                     q: settings.q,
                     n: settings.n,
                     k: settings.k,
-                    index: 0,
+                    index: ExtendedIndex(0),
                 }),
                 size,
             }

@@ -4,7 +4,6 @@ ghost use mathlib.Core.List.{_++_};
 ghost use Prim.Native.Nat.{ℕ, _+_, _*_, _-_, _≤_, _<_};
 ghost use lib.Dec.{T};
 ghost use lib.ListN.{length, getD, take, drop, replicate};
-ghost use lib.Seq.{paste};
 ghost use Rattle.field.specs.Field.{isFieldSize};
 ghost use Rattle.linear.specs.Span.{All, Row, rowsOf};
 ghost use Rattle.linear.specs.Eliminate.{leadOf, eliminate as eliminated, residue as residueOf, monic as monicOf, place as placed};
@@ -54,18 +53,6 @@ fn enter(q: u64, n: usize, p: usize, row: &[u8], m: &mut [u8], to: usize)
     }
 }
 
-// Copies `source` to the places of `target` from `start` on.
-fn copy(source: &[u8], target: &mut [u8], start: usize)
-    requires { ⌜ start + length (now source) ≤ length (now target) ⌝ }
-    ensures { λ _. ⌜ now (target .exit) ≡ paste (now (target .entry)) start (now (source .entry)) (length (now (source .entry))) ⌝ }
-{
-    let mut j = 0;
-    while j < source.len() {
-        target[start + j] = source[j];
-        j += 1;
-    }
-}
-
 // Writes `row`, eliminated with each of the d reduced rows of m, to the place after them. `pivots` holds their leads.
 fn residue(q: u64, n: usize, d: usize, row: &[u8], m: &mut [u8], pivots: &[u8])
     requires { ⌜ T (isFieldSize q) × (d * n + n ≤ length (now m)) × Kept q n (rowsOf n d (now m)) × Row q n (now row) ⌝ }
@@ -73,7 +60,7 @@ fn residue(q: u64, n: usize, d: usize, row: &[u8], m: &mut [u8], pivots: &[u8])
     ensures { λ _. ⌜ now (m .exit) ≡ put n (d * n) (residueOf q n (rowsOf n d (now (m .entry))) (now (row .entry))) (now (m .entry)) ⌝ }
 {
     if d == 0 {
-        copy(row, m, 0);
+        basics::copy(row, m, 0);
         return;
     }
     let to = d * n;

@@ -7,7 +7,7 @@
 --   readAt text at      == the number of all digits from the cursor on, with the cursor past them
 --   decimalAt text at most     == the same, where they are a numeral of 1 to `most` digits
 --   fieldAt text at most mark  == the same, where the byte `mark` follows, with the cursor past the mark
--- DecimalLaws shows what is read: exactly the numerals.
+-- laws.Field shows what is read: exactly the numerals.
 -- Assumes nothing.
 use mathlib.Core.Bool.{Bool, true, false, _&&_, _||_, not}
 use mathlib.Core.List.{List, [], _∷_}

@@ -2,8 +2,10 @@
 -- line feed with nothing after it".
 --   settingsLine q n k  == that line
 --   IsSettingsLine s x  == the text s is that line of the settings x, three numbers below 1000
---   parsed s            == what the text s is found to be; `parsed-exactly` of Exactly: the settings of which s is the line, and Malformed
+--   lineAt s at         == the settings line that begins at the cursor, whatever follows it, with the cursor past it
+--   parsed s            == what the text s is found to be; `parsed-exactly` of Theorems: the settings of which s is the line, and Malformed
 --                          where there are none such
+--   decisive            == 13: so many bytes of a text decide what it is, one more than the longest settings line has
 -- Assumes nothing.
 use mathlib.Core.Path.{_≡_}
 use mathlib.Core.List.{List, [], _∷_, _++_}
@@ -17,8 +19,13 @@ use Rattle.settings_line.specs.declared.decimal.Numeral.{Numeral}
 use Rattle.settings_line.specs.declared.decimal.Decimal.{Decimal}
 use Rattle.settings_line.specs.declared.decimal.Decimal.the-variants.{Number, None}
 use Rattle.settings_line.specs.declared.Settings.{Settings}
+use Rattle.settings_line.specs.declared.Found.{Found}
+use Rattle.settings_line.specs.declared.Found.the-variants.{Line as line, None as nothing}
 use Rattle.settings_line.specs.declared.Parsed.{Parsed}
 use Rattle.settings_line.specs.declared.Parsed.the-variants.{Settings as settings, Malformed}
+
+abbrev pub decisive : ℕ
+decisive = 13
 
 unfoldable pub settingsLine : ℕ → ℕ → ℕ → List ℕ
 settingsLine q n k = numeral q ++ (comma ∷ numeral n ++ (comma ∷ numeral k ++ (lineFeed ∷ [])))
@@ -33,6 +40,17 @@ pub record IsSettingsLine (s : List ℕ) (x : Settings) : Type 0 where
 abbrev pub after : Decimal → (Numeral → Parsed) → Parsed
 after (Number x) next = next x
 after None next = Malformed
+
+abbrev pub next : Decimal → (Numeral → Found) → Found
+next (Number x) more = more x
+next None more = nothing
+
+unfoldable pub lineAt : List ℕ → ℕ → Found
+lineAt s at =
+    next (fieldAt s at 3 comma)
+    (λ q. next (fieldAt s (q .end) 3 comma)
+    (λ n. next (fieldAt s (n .end) 3 lineFeed)
+    (λ k. line (record { settings = record { q = q .value; n = n .value; k = k .value }; end = k .end }))))
 
 unfoldable pub parsed : List ℕ → Parsed
 parsed s =

@@ -1,3 +1,4 @@
 pub mod Again
 pub mod Thin
 pub mod Lent
+pub mod Compose

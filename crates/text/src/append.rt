@@ -1,13 +1,14 @@
-// Pieces of text put into a lent buffer that is filled up to some place. A piece that does not fit leaves the buffer and the place unchanged.
+// Pieces of text put into a lent buffer that is filled up to some place. A piece that does not fit leaves both unchanged.
 ghost use mathlib.Core.Path.{_≡_};
 ghost use mathlib.Core.List.{[], _∷_};
-ghost use mathlib.Core.Bool.{_&&_};
-ghost use Prim.Native.Nat.{_+_, _-_, _≤_};
+ghost use Prim.Native.Nat.{_+_, _<_, _≤_};
 ghost use lib.Dec.{leb};
-ghost use lib.ListN.{length, drop};
-ghost use lib.Seq.{paste};
-ghost use Rattle.text.specs.Text.{numeral};
-ghost use Rattle.text.specs.Appending.{fits, placeAfter, bufferAfter};
+ghost use lib.ListN.{drop};
+ghost use Rattle.text.specs.Text.{glyph, numeral};
+ghost use Rattle.text.specs.Piece.{Appended};
+ghost use Rattle.text.specs.Word.{letters};
+use crate::word;
+use crate::word::Word;
 
 // The bytes of the digit 0, the comma, the slash and the line feed.
 pub const ZERO: u8 = 48;
@@ -24,9 +25,9 @@ pub struct Put {
     pub fits: bool,
 }
 
-// Whether `length` bytes have room from the place `at` on. The place is tested first, so one past the end has room for none, and no number wraps.
-fn has_room(size: usize, at: usize, length: usize) -> bool
-    ensures { λ r. ⌜ r ≡ leb at size && leb length (size - at) ⌝ }
+// Whether `length` bytes have room from the place `at` on. The place is tested first, so one past the end has no room, and no number wraps.
+pub(crate) fn has_room(size: usize, at: usize, length: usize) -> bool
+    ensures { λ r. ⌜ r ≡ leb (at + length) size ⌝ }
 {
     if size < at {
         return false;
@@ -34,32 +35,33 @@ fn has_room(size: usize, at: usize, length: usize) -> bool
     length <= size - at
 }
 
-// Copies the piece to the places of the buffer from `at` on.
-fn copy(piece: &[u8], buffer: &mut [u8], at: usize)
-    requires { ⌜ at + length (now piece) ≤ length (now buffer) ⌝ }
-    ensures { λ _. ⌜ now (buffer .exit) ≡ paste (now (buffer .entry)) at (now (piece .entry)) (length (now (piece .entry))) ⌝ }
-{
-    let mut j = 0;
-    while j < piece.len() {
-        buffer[at + j] = piece[j];
-        j += 1;
-    }
-}
-
 // Puts a piece in at the place `at`.
 pub fn append(buffer: &mut [u8], at: usize, piece: &[u8]) -> Put
-    ensures { λ r. ⌜ (r .at ≡ placeAfter (length (now (buffer .entry))) at (now (piece .entry)))
-        × (r .fits ≡ fits (length (now (buffer .entry))) at (now (piece .entry)))
-        × (now (buffer .exit) ≡ bufferAfter (now (buffer .entry)) at (now (piece .entry))) ⌝ }
+    ensures { λ r. ⌜ Appended (now (buffer .entry)) at (now (piece .entry)) r (now (buffer .exit)) ⌝ }
 {
     if has_room(buffer.len(), at, piece.len()) {
-        copy(piece, buffer, at);
+        basics::copy(piece, buffer, at);
         return Put {
             at: at + piece.len(),
             fits: true,
         };
     }
     Put { at, fits: false }
+}
+
+// Puts one byte in.
+pub fn append_byte(buffer: &mut [u8], at: usize, byte: u8) -> Put
+    ensures { λ r. ⌜ Appended (now (buffer .entry)) at (byte ∷ []) r (now (buffer .exit)) ⌝ }
+{
+    append(buffer, at, &[byte])
+}
+
+// Puts a decimal digit in.
+pub fn append_digit(buffer: &mut [u8], at: usize, d: u8) -> Put
+    requires { ⌜ d < 10 ⌝ }
+    ensures { λ r. ⌜ Appended (now (buffer .entry)) at (glyph d ∷ []) r (now (buffer .exit)) ⌝ }
+{
+    append_byte(buffer, at, ZERO + d)
 }
 
 // A numeral: the digits from the place `start` on.
@@ -85,23 +87,24 @@ fn numeral_of(x: u64) -> Numeral
     Numeral { digits, start }
 }
 
-// Puts one byte in.
-pub fn append_byte(buffer: &mut [u8], at: usize, byte: u8) -> Put
-    ensures { λ r. ⌜ (r .at ≡ placeAfter (length (now (buffer .entry))) at (byte ∷ []))
-        × (r .fits ≡ fits (length (now (buffer .entry))) at (byte ∷ []))
-        × (now (buffer .exit) ≡ bufferAfter (now (buffer .entry)) at (byte ∷ [])) ⌝ }
-{
-    append(buffer, at, &[byte])
-}
-
 // Puts a number in, in decimal digits.
 pub fn append_number(buffer: &mut [u8], at: usize, x: u64) -> Put
-    ensures { λ r. ⌜ (r .at ≡ placeAfter (length (now (buffer .entry))) at (numeral x))
-        × (r .fits ≡ fits (length (now (buffer .entry))) at (numeral x))
-        × (now (buffer .exit) ≡ bufferAfter (now (buffer .entry)) at (numeral x)) ⌝ }
+    ensures { λ r. ⌜ Appended (now (buffer .entry)) at (numeral x) r (now (buffer .exit)) ⌝ }
 {
     let n = numeral_of(x);
     let digits = n.digits;
     let start = n.start;
     append(buffer, at, &digits[start..])
+}
+
+// Puts a word in.
+pub fn append_word(buffer: &mut [u8], at: usize, word: Word) -> Put
+    ensures { λ r. ⌜ Appended (now (buffer .entry)) at (letters word) r (now (buffer .exit)) ⌝ }
+{
+    let bytes = word.bytes;
+    let size = word.size;
+    if size < word::LONGEST {
+        return append(buffer, at, &bytes[..size]);
+    }
+    append(buffer, at, &bytes)
 }

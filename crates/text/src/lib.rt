@@ -1,5 +1,5 @@
 // Text as bytes: decimal numerals, and a writer of pieces of text.
 pub mod append;
-pub mod line;
 pub mod rows;
+pub mod word;
 pub mod writer;

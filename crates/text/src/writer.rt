@@ -1,15 +1,16 @@
-// The line writer: it keeps the lent buffer, and how far that is filled. A piece that does not fit leaves both unchanged, and the answer says so.
-// Each function is thin and is proved by a walk by hand; the work is done by the functions over a buffer and a place.
+// The line writer: it keeps the lent buffer, and how far that is filled. A piece that does not fit leaves both unchanged, and the answer
+// says so. Each function is thin and is proved by a walk by hand; the work is done by the functions over a buffer and a place.
 ghost use mathlib.Core.Path.{_≡_};
 ghost use mathlib.Core.List.{[], _∷_};
-ghost use lib.ListN.{length};
-ghost use Rattle.text.specs.Text.{numeral};
-ghost use Rattle.text.specs.Appending.{fits};
-ghost use Rattle.text.specs.Shown.{shown};
-ghost use Rattle.text.specs.Writing.{appended};
+ghost use Prim.Native.Nat.{_<_};
+ghost use Rattle.text.specs.Text.{comma as commaByte, slash as slashByte, lineFeed, glyph, numeral};
+ghost use Rattle.text.specs.Rows.{DigitRows, rowsText};
+ghost use Rattle.text.specs.Word.{letters};
+ghost use Rattle.text.specs.Writer.{Wrote};
 use crate::append;
 use crate::rows;
 use crate::rows::Rows;
+use crate::word::Word;
 
 pub struct Writer<'a> {
     pub buffer: &'a mut [u8],
@@ -25,7 +26,7 @@ pub fn new<'a>(buffer: &'a mut [u8]) -> Writer<'a>
 
 // Puts a number in, in decimal digits.
 pub fn number<'s, 'a>(w: &'s mut Writer<'a>, x: u64) -> bool
-    ensures { λ r. ⌜ (r ≡ fits (length (now (now (w .entry) .buffer))) (now (w .entry) .at) (numeral x)) × (now (w .exit) ≡ appended (now (w .entry)) (numeral x)) ⌝ }
+    ensures { λ r. ⌜ Wrote (now (w .entry)) (numeral x) r (now (w .exit)) ⌝ }
 {
     let at = w.at;
     let put = append::append_number(&mut *w.buffer, at, x);
@@ -33,22 +34,64 @@ pub fn number<'s, 'a>(w: &'s mut Writer<'a>, x: u64) -> bool
     put.fits
 }
 
-// Puts a byte in: a comma, a slash, a line feed, or a digit's.
-pub fn byte<'s, 'a>(w: &'s mut Writer<'a>, b: u8) -> bool
-    ensures { λ r. ⌜ (r ≡ fits (length (now (now (w .entry) .buffer))) (now (w .entry) .at) (b ∷ [])) × (now (w .exit) ≡ appended (now (w .entry)) (b ∷ [])) ⌝ }
+// Puts a decimal digit in.
+pub fn digit<'s, 'a>(w: &'s mut Writer<'a>, d: u8) -> bool
+    requires { ⌜ d < 10 ⌝ }
+    ensures { λ r. ⌜ Wrote (now (w .entry)) (glyph d ∷ []) r (now (w .exit)) ⌝ }
 {
     let at = w.at;
-    let put = append::append_byte(&mut *w.buffer, at, b);
+    let put = append::append_digit(&mut *w.buffer, at, d);
+    w.at = put.at;
+    put.fits
+}
+
+// Puts a comma in.
+pub fn comma<'s, 'a>(w: &'s mut Writer<'a>) -> bool
+    ensures { λ r. ⌜ Wrote (now (w .entry)) (commaByte ∷ []) r (now (w .exit)) ⌝ }
+{
+    let at = w.at;
+    let put = append::append_byte(&mut *w.buffer, at, append::COMMA);
+    w.at = put.at;
+    put.fits
+}
+
+// Puts a slash in.
+pub fn slash<'s, 'a>(w: &'s mut Writer<'a>) -> bool
+    ensures { λ r. ⌜ Wrote (now (w .entry)) (slashByte ∷ []) r (now (w .exit)) ⌝ }
+{
+    let at = w.at;
+    let put = append::append_byte(&mut *w.buffer, at, append::SLASH);
+    w.at = put.at;
+    put.fits
+}
+
+// Puts a line feed in.
+pub fn line_feed<'s, 'a>(w: &'s mut Writer<'a>) -> bool
+    ensures { λ r. ⌜ Wrote (now (w .entry)) (lineFeed ∷ []) r (now (w .exit)) ⌝ }
+{
+    let at = w.at;
+    let put = append::append_byte(&mut *w.buffer, at, append::LINE_FEED);
+    w.at = put.at;
+    put.fits
+}
+
+// Puts a word in.
+pub fn word<'s, 'a>(w: &'s mut Writer<'a>, piece: Word) -> bool
+    ensures { λ r. ⌜ Wrote (now (w .entry)) (letters piece) r (now (w .exit)) ⌝ }
+{
+    let at = w.at;
+    let put = append::append_word(&mut *w.buffer, at, piece);
     w.at = put.at;
     put.fits
 }
 
 // Puts the text of rows in.
-pub fn rows<'s, 'a>(w: &'s mut Writer<'a>, text: Rows) -> bool
-    ensures { λ r. ⌜ (r ≡ fits (length (now (now (w .entry) .buffer))) (now (w .entry) .at) (shown text)) × (now (w .exit) ≡ appended (now (w .entry)) (shown text)) ⌝ }
+pub fn rows<'s, 'a>(w: &'s mut Writer<'a>, matrix: Rows) -> bool
+    requires { ⌜ DigitRows (matrix .n) (matrix .k) (matrix .entries) ⌝ }
+    ensures { λ r. ⌜ Wrote (now (w .entry)) (rowsText (matrix .n) (matrix .k) (matrix .entries)) r (now (w .exit)) ⌝ }
 {
     let at = w.at;
-    let put = rows::append_rows(&mut *w.buffer, at, text);
+    let put = rows::append_rows(&mut *w.buffer, at, matrix);
     w.at = put.at;
     put.fits
 }

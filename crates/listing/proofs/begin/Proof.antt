@@ -2,13 +2,14 @@
 use mathlib.Core.Path.{_≡_, _∙_, ap, sym}
 use Rattle.settings_line.specs.SettingsLine.{parsed}
 use Rattle.settings_line.specs.declared.Parsed.the-variants.{Settings as settings}
-use Rattle.listing.specs.StepsLaws.{begun-malformed, begun-refused, begun-header}
+use Rattle.listing.specs.laws.Steps.{begun-malformed, begun-refused, begun-header}
 use Rattle.listing.specs.declared.State.the-variants.{Refused}
 use borrow.Author.Needs.{needs}
 use Rattle.listing.proofs.begin.Statement.{statement}
 use Rattle.listing.proofs.begin.Tie as tie
 
-found : (c : tie.After-known-told) → parsed (c .before .before .before .before .before .args .input .now) ≡ settings (c .before .found .given .0 .0)
+found : (c : tie.After-known-told) → parsed (c .before .before .before .before .before .args .input .now) ≡ settings
+    (c .before .found .given .0 .0)
 found c = sym (c .before .before .before .parse .ensures) ∙ c .before .found .given .1
 
 parse-requires : tie.Need-parse-requires

@@ -1,6 +1,6 @@
 -- `listing::lines_end` meets its contract.
 use mathlib.Core.Path.{sym}
-use Rattle.listing.specs.StepsLaws.{end-short, end-long}
+use Rattle.listing.specs.laws.Steps.{end-short, end-long}
 use borrow.Author.Needs.{needs}
 use Rattle.listing.proofs.lines_end.Statement.{statement}
 use Rattle.listing.proofs.lines_end.Tie as tie
@@ -11,11 +11,11 @@ sub-if1 c = search needs
 returns : tie.Need-returns
 returns c = sym (end-short _ _ (c .if1 .taken))
 
-add-result : tie.Need-add-result
-add-result c = search needs
+add-t3 : tie.Need-add-t3
+add-t3 c = search needs
 
 returns-2 : tie.Need-returns-2
-returns-2 c = sym (end-long _ _ (c .if1 .left))
+returns-2 c = sym (end-long _ _ (c .before .if1 .left))
 
 pub lines-end-spec : {M : Type 1} → statement M
-lines-end-spec = tie.close (tie.spec sub-if1 returns add-result returns-2)
+lines-end-spec = tie.close (tie.spec sub-if1 returns add-t3 returns-2)

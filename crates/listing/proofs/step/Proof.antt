@@ -2,7 +2,7 @@
 use mathlib.Core.Path.{_∙_, ap, sym}
 use lib.ListN.{length}
 use Rattle.listing.specs.Steps.{chunkOf, nextState}
-use Rattle.listing.specs.Pieces.{written}
+use Rattle.listing.specs.Front.{written}
 use borrow.Author.Needs.{needs}
 use Rattle.listing.proofs.step.Statement.{statement}
 use Rattle.listing.proofs.step.Tie as tie
@@ -32,8 +32,12 @@ returns : tie.Need-returns
 returns c =
     let s = c .before .before .before in
     let e = sym (s .state .given .1) in
-    let start = s .before .before .args .chunk .now in
-    (ap nextState e, c .write-header .ensures .0 ∙ ap (λ t. length (chunkOf t)) e, c .write-header .ensures .1 ∙ ap (λ t. written (chunkOf t) start) e)
+    let start = s .before .before .args .chunk .now in (
+      ap nextState e,
+      c .write-header .ensures .0 ∙ ap (λ t. length (chunkOf t)) e,
+      c .write-header .ensures .1
+          ∙ ap (λ t. written (chunkOf t) start) e,
+    )
 
 returns-2 : tie.Need-returns-2
 returns-2 c =
@@ -49,8 +53,12 @@ returns-3 : tie.Need-returns-3
 returns-3 c =
     let s = c .before .before .before in
     let e = sym (s .state3 .given .1) in
-    let start = s .before .before .args .chunk .now in
-    (ap nextState e, c .write-refused .ensures .0 ∙ ap (λ t. length (chunkOf t)) e, c .write-refused .ensures .1 ∙ ap (λ t. written (chunkOf t) start) e)
+    let start = s .before .before .args .chunk .now in (
+      ap nextState e,
+      c .write-refused .ensures .0 ∙ ap (λ t. length (chunkOf t)) e,
+      c .write-refused .ensures .1
+          ∙ ap (λ t. written (chunkOf t) start) e,
+    )
 
 returns-4 : tie.Need-returns-4
 returns-4 c = search needs

@@ -1,28 +1,33 @@
--- `listing::write::write_lines` meets its contract: the lines passed stand at the buffer's front, each at most 276 bytes long, so that the next
+-- `listing::write::write_lines` meets its contract: the lines passed stand at the buffer's front, each at most 276 bytes long, so that the
+-- next
 -- has its 320 bytes of room.
 use mathlib.Core.Path.{_≡_, refl}
 use Prim.Native.Nat.{_+_, _-_, _≤_}
 use native.Mathlib.Omega.{arith}
 use lib.ListN.{length}
-use Rattle.listing.specs.LineFits.{line-fits}
-use Rattle.listing.specs.Filling.{Filling, filling-start, filling-small, filling-length, filling-room, filling-more, filling-end}
+use Rattle.listing.specs.Line.{lineRoom}
+use Rattle.listing.specs.Steps.{chunkSize}
+use Rattle.listing.specs.laws.Line.{line-short}
+use Rattle.listing.specs.laws.WriteLines.{Filling, filling-start, filling-small, filling-length, filling-room, filling-more}
+use Rattle.listing.specs.laws.WriteLines.{filling-end}
 use Rattle.listing.proofs.write.write_lines.Statement.{statement}
 use Rattle.listing.proofs.write.write_lines.Tie as tie
 
 abbrev Inv-loop : tie.InvT-loop
-Inv-loop buffer₀ q n k from to at₀ index₀ buffer at index = Filling q n k from to buffer₀ buffer at index
+Inv-loop buffer₀ q n k last at₀ index₀ buffer at index = Filling q n k index₀ last buffer₀ buffer at index
 
 abbrev μ-loop : tie.MeasureT-loop
-μ-loop buffer₀ q n k from to at₀ index₀ buffer at index = to - index
+μ-loop buffer₀ q n k last at₀ index₀ buffer at index = last - index
 
 -- there are 320 bytes for the next line
-room : (c : tie.In-loop Inv-loop μ-loop) → c .before .loop .at + 320 ≤ length (c .before .loop .buffer)
+room : (c : tie.In-loop Inv-loop μ-loop) → c .before .loop .at + lineRoom ≤ length (c .before .loop .buffer)
 room c =
     let s = c .before .before .before in
-    filling-room _ _ _ _ _ _ _ _ _ (c .before .loop .inv) (s .pre .0) (s .pre .2) (s .pre .3) (s .pre .4) 320 refl (c .loop-test .taken) .0
+    filling-room _ _ _ _ _ _ _ _ _ (c .before .loop .inv) (s .pre .0) (s .pre .2) (s .pre .3) (s .pre .4) lineRoom refl
+    (c .loop-test .taken) .0
 
 -- how far the buffer is filled
-small : (c : tie.In-loop Inv-loop μ-loop) → c .before .loop .at ≤ 20480
+small : (c : tie.In-loop Inv-loop μ-loop) → c .before .loop .at ≤ chunkSize
 small c =
     let s = c .before .before .before in
     let f = c .before .loop .inv in
@@ -34,21 +39,21 @@ loop-holds c = filling-start _ _ _ _ _ _ (c .before .pre .1)
 add-end : tie.Need-add-end Inv-loop μ-loop
 add-end c = omega (arith, small c)
 
-sub-write-listing-line : tie.Need-sub-write-listing-line Inv-loop μ-loop
-sub-write-listing-line c = omega arith
+sub-write-space : tie.Need-sub-write-space Inv-loop μ-loop
+sub-write-space c = omega arith
 
-part-write-listing-line-start : tie.Need-part-write-listing-line-start Inv-loop μ-loop
-part-write-listing-line-start c = omega arith
+part-write-space-start : tie.Need-part-write-space-start Inv-loop μ-loop
+part-write-space-start c = omega arith
 
-part-write-listing-line-end : tie.Need-part-write-listing-line-end Inv-loop μ-loop
-part-write-listing-line-end c = room c
+part-write-space-end : tie.Need-part-write-space-end Inv-loop μ-loop
+part-write-space-end c = room c
 
-write-listing-line-requires : tie.Need-write-listing-line-requires Inv-loop μ-loop
-write-listing-line-requires c κs =
+write-space-requires : tie.Need-write-space-requires Inv-loop μ-loop
+write-space-requires c κs =
     let l = c .before .before in
     let s = l .before .before in
     let test = c .before .loop-test .taken in
-    let lent : l .loop .at + 320 - l .loop .at ≡ 320 = omega arith in (
+    let lent : l .loop .at + lineRoom - l .loop .at ≡ lineRoom = omega arith in (
       s .pre .0,
       omega (arith, s .pre .2, test),
       omega (arith, filling-room _ _ _ _ _ _ _ _ _ (l .loop .inv) (s .pre .0) (s .pre .2) (s .pre .3) (s .pre .4) _ lent test .1),
@@ -64,8 +69,8 @@ add-at c =
     omega (
       arith,
       small (w .before .before),
-      w .write-listing-line .ensures .0,
-      line-fits (a .q) (a .n) (a .k) (l .loop .index) (s .pre .0) (omega (arith, s .pre .2, test)),
+      w .write-space .ensures .0,
+      line-short (a .q) (a .n) (a .k) (l .loop .index) (s .pre .0) (omega (arith, s .pre .2, test)),
     )
 
 add-index : tie.Need-add-index Inv-loop μ-loop
@@ -79,9 +84,10 @@ loop-again c =
     let w = c .before .before in
     let l = w .before .before .before in
     let s = l .before .before in
-    let lent : l .loop .at + 320 - l .loop .at ≡ 320 = omega arith in
-    filling-more _ _ _ _ _ _ _ _ _ (l .loop .inv) (s .pre .0) (s .pre .2) (s .pre .3) (s .pre .4) _ lent (w .before .before .loop-test .taken) _ _
-    (w .write-listing-line .ensures .0) (w .write-listing-line .ensures .1)
+    let lent : l .loop .at + lineRoom - l .loop .at ≡ lineRoom = omega arith in
+    filling-more _ _ _ _ _ _ _ _ _ (l .loop .inv) (s .pre .0) (s .pre .2) (s .pre .3) (s .pre .4) _ lent
+    (w .before .before .loop-test .taken) _ _
+    (w .write-space .ensures .0) (w .write-space .ensures .1)
 
 same-length : tie.Need-same-length Inv-loop μ-loop
 same-length c =
@@ -100,10 +106,10 @@ write-lines-spec =
     μ-loop
     loop-holds
     add-end
-    sub-write-listing-line
-    part-write-listing-line-start
-    part-write-listing-line-end
-    write-listing-line-requires
+    sub-write-space
+    part-write-space-start
+    part-write-space-end
+    write-space-requires
     add-at
     add-index
     loop-less

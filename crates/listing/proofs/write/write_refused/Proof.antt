@@ -1,27 +1,36 @@
--- `listing::write::write_refused` meets its contract: three pieces one after the other. A number below 2^32 has at most 10 digits.
+-- `listing::write::write_refused` meets its contract: the pieces have room in the 320 bytes that are lent, so they stand one after the
+-- other. A
+-- number below 2^32 has at most 10 digits.
+use mathlib.Core.Path.{ap, sym}
 use mathlib.Core.List.{[], _∷_, _++_}
 use Prim.Native.Nat.{_≤_}
 use native.Mathlib.Omega.{arith}
 use lib.ListN.{length, length-append}
-use Rattle.text.specs.Text.{numeral, lineFeed}
-use Rattle.text.specs.TextLaws.{numeral-length}
+use lib.Seq.{length-take-le}
+use Rattle.text.specs.Text.{comma, lineFeed, numeral}
+use Rattle.text.specs.laws.Numeral.{numeral-length}
+use Rattle.text.specs.Word.{letters}
+use Rattle.listing.specs.Line.{lineRoom}
 use Rattle.listing.specs.Listing.{refusedWord, refusedLine}
-use Rattle.listing.specs.Pieces.{filled-none, filled-put}
+use Rattle.listing.specs.laws.Front.{composed-front}
 use borrow.Author.Needs.{needs}
 use Rattle.listing.proofs.write.write_refused.Statement.{statement}
 use Rattle.listing.proofs.write.write_refused.Tie as tie
 
-slice-aggregate-append : tie.Need-slice-aggregate-append
-slice-aggregate-append c = search needs
+slice-relend-prefix-put-refused : tie.Need-slice-relend-prefix-put-refused
+slice-relend-prefix-put-refused c = search needs
 
-append-requires : tie.Need-append-requires
-append-requires c κs = search needs
+slice-aggregate-put-refused : tie.Need-slice-aggregate-put-refused
+slice-aggregate-put-refused c = let start = c .before .before in sym (length-take-le lineRoom (start .args .buffer .now) (start .pre))
 
-append-number-requires : tie.Need-append-number-requires
-append-number-requires c κs = search needs
+slice-aggregate-spell : tie.Need-slice-aggregate-spell
+slice-aggregate-spell c = search needs
 
-append-byte-requires : tie.Need-append-byte-requires
-append-byte-requires c κs = search needs
+spell-requires : tie.Need-spell-requires
+spell-requires c κs = search needs
+
+put-refused-requires : tie.Need-put-refused-requires
+put-refused-requires c κs = search needs
 
 same-length : tie.Need-same-length
 same-length c = search needs
@@ -29,28 +38,25 @@ same-length c = search needs
 returns : tie.Need-returns
 unfolding refusedWord refusedLine
 returns c =
-    let last = c .before .before in
-    let second = last .before .before .before .before in
-    let first = second .before .before .before .before in
-    let s = first .before .before .before .before in
-    let start = s .args .buffer .now in
-    let r = s .args .refusal in
+    let p = c .before .before in
+    let start = p .before .before .before .before .before in
+    let r = start .args .refusal in
+    let room = length-take-le lineRoom (start .args .buffer .now) (start .pre) in
     let short : length (numeral r) ≤ 10 = numeral-length 9 r (omega arith) in
-    let word = filled-put start [] refusedWord 0 start _ _ (filled-none start) (omega arith) (first .append .ensures .0) (first .append .ensures .2) in
-    let number =
-    filled-put start refusedWord (numeral r) _ _ _ _ word (omega arith) (second .append-number .ensures .0) (second .append-number .ensures .2) in
-    let f =
-    filled-put start (refusedWord ++ numeral r) (lineFeed ∷ []) _ _ _ _ number (simp length-append (omega arith)) (last .append-byte .ensures .0)
-    (last .append-byte .ensures .2) in
-    (f .place, f .holds)
+    composed-front (start .args .buffer .now) lineRoom
+    (letters (p .before .spell .result) ∷ (comma ∷ []) ∷ numeral r ∷ (lineFeed ∷ []) ∷ []) (refusedLine r) _ _
+    (ap (λ t. t ++ (comma ∷ (numeral r ++ (lineFeed ∷ [])))) (p .before .spell .ensures))
+    (omega (arith, room, length-append (numeral r) (lineFeed ∷ [])))
+    (p .put-refused .ensures)
 
 pub write-refused-spec : {M : Type 1} → statement M
 write-refused-spec =
     tie.close
     (tie.spec
-    slice-aggregate-append
-    append-requires
-    append-number-requires
-    append-byte-requires
+    slice-relend-prefix-put-refused
+    slice-aggregate-put-refused
+    slice-aggregate-spell
+    spell-requires
+    put-refused-requires
     same-length
     returns)

@@ -1,7 +1,8 @@
 -- `settings_line::decimal::read_decimal` meets its contract: the tests of the digits that were read, by their number and the first of them.
 use mathlib.Core.Path.{_≡_, _∙_, sym}
 use Rattle.settings_line.specs.Decimal.{readAt}
-use Rattle.settings_line.specs.DecimalLaws.{decimal-unread, decimal-inside, decimal-empty, decimal-long, decimal-single, decimal-zero-led, decimal-led}
+use Rattle.settings_line.specs.laws.Decimal.{decimal-unread, decimal-inside, decimal-empty, decimal-long, decimal-single}
+use Rattle.settings_line.specs.laws.Decimal.{decimal-zero-led, decimal-led}
 use Rattle.settings_line.specs.declared.decimal.Decimal.the-variants.{Number}
 use borrow.Author.Needs.{needs}
 use Rattle.settings_line.proofs.decimal.read_decimal.Statement.{statement}
@@ -44,7 +45,8 @@ shared-slice-read-if4 c = let e = c .before .before .before in decimal-inside _ 
 returns-5 : tie.Need-returns-5
 returns-5 c =
     let e = c .before .before .before .before in
-    sym (decimal-zero-led _ _ _ _ (read (e .before)) (e .if1 .left) (c .before .before .if3 .left) (c .before .before .before .if2 .left) (c .if4 .taken))
+    sym (decimal-zero-led _ _ _ _ (read (e .before)) (e .if1 .left) (c .before .before .if3 .left) (c .before .before .before .if2 .left)
+    (c .if4 .taken))
 
 returns-6 : tie.Need-returns-6
 returns-6 c =

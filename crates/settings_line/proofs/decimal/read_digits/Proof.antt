@@ -8,7 +8,8 @@ use borrow.Author.Needs.{needs}
 use borrow.Author.Tests.{not-true, not-false}
 use lib.ListN.{length, getD}
 use Rattle.settings_line.specs.Decimal.{isDigit}
-use Rattle.settings_line.specs.Reading.{digit-bounds, run-end, run-stop, Running, running-start, running-more, running-done, running-over}
+use Rattle.settings_line.specs.laws.ReadDigits.{digit-bounds, run-end, run-stop, Running, running-start, running-more, running-done}
+use Rattle.settings_line.specs.laws.ReadDigits.{running-over}
 use Rattle.settings_line.proofs.decimal.read_digits.Statement.{statement}
 use Rattle.settings_line.proofs.decimal.read_digits.Tie as tie
 
@@ -54,7 +55,8 @@ returns-2 : tie.Need-returns-2 Inv-loop μ-loop
 returns-2 c =
     let l = c .before .before .before .before .before .before in
     let bounds = digit-bounds _ (digit (c .before)) in
-    sym (running-over _ _ _ _ (l .loop .inv) (c .before .before .before .before .before .loop-test .taken) (digit (c .before)) (omega arith))
+    sym (running-over _ _ _ _ (l .loop .inv) (c .before .before .before .before .before .loop-test .taken) (digit (c .before))
+    (omega arith))
 
 mul-value : tie.Need-mul-value Inv-loop μ-loop
 mul-value c = omega arith

@@ -1,14 +1,15 @@
 -- `settings_line::decimal::read_field` meets its contract: the byte behind the number that was read.
 use mathlib.Core.Path.{_≡_, _∙_, sym}
 use Rattle.settings_line.specs.Decimal.{decimalAt}
-use Rattle.settings_line.specs.DecimalLaws.{field-unread, field-open, field-other, field-marked}
+use Rattle.settings_line.specs.laws.Decimal.{field-unread, field-open, field-other, field-marked}
 use Rattle.settings_line.specs.declared.decimal.Decimal.the-variants.{Number}
 use borrow.Author.Needs.{needs}
 use Rattle.settings_line.proofs.decimal.read_field.Statement.{statement}
 use Rattle.settings_line.proofs.decimal.read_field.Tie as tie
 
 read : (c : tie.After-known-told)
-    → let a = c .before .before .before .before .before .args in decimalAt (a .text .now) (a .at) (a .most) ≡ Number (c .before .read .given .0 .0)
+    → let a = c .before .before .before .before .before .args in decimalAt (a .text .now) (a .at) (a .most) ≡ Number
+    (c .before .read .given .0 .0)
 read c = sym (c .before .before .before .read-decimal .ensures) ∙ c .before .read .given .1
 
 read-decimal-requires : tie.Need-read-decimal-requires

@@ -3,7 +3,8 @@ use mathlib.Core.Path.{_∙_, sym}
 use native.Mathlib.Omega.{arith}
 use borrow.Author.Needs.{needs}
 use lib.ListN.{length}
-use Rattle.text.specs.AppendingLaws.{refused, fitted, fits-room}
+use borrow.Author.Tests.{leb-true}
+use Rattle.text.specs.laws.Piece.{refused, fitted}
 use Rattle.text.proofs.append.append.Statement.{statement}
 use Rattle.text.proofs.append.append.Tie as tie
 
@@ -14,13 +15,13 @@ copy-requires : tie.Need-copy-requires
 copy-requires c κs =
     let t = c .before in
     let a = t .before .before .before .before .args in
-    fits-room (length (a .buffer .now)) (a .at) (a .piece .now) (sym (t .before .has-room .ensures) ∙ t .if1 .taken)
+    leb-true _ (length (a .buffer .now)) (sym (t .before .has-room .ensures) ∙ t .if1 .taken)
 
 add-t11 : tie.Need-add-t11
 add-t11 c =
     let t = c .before .before .before .before in
     let a = t .before .before .before .before .args in
-    omega (arith, fits-room (length (a .buffer .now)) (a .at) (a .piece .now) (sym (t .before .has-room .ensures) ∙ t .if1 .taken))
+    omega (arith, leb-true _ (length (a .buffer .now)) (sym (t .before .has-room .ensures) ∙ t .if1 .taken))
 
 same-length : tie.Need-same-length
 same-length c = search needs

@@ -6,7 +6,7 @@ use borrow.Author.Needs.{needs}
 use lib.ListN.{length, take, drop, length-drop}
 use lib.Seq.{take-all}
 use Rattle.text.specs.Text.{numeral}
-use Rattle.text.specs.Appending.{fits, placeAfter, bufferAfter}
+use Rattle.text.specs.Piece.{fits, placeAfter, bufferAfter}
 use Rattle.text.proofs.append.append_number.Statement.{statement}
 use Rattle.text.proofs.append.append_number.Tie as tie
 

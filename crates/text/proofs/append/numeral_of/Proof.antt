@@ -5,12 +5,13 @@ use Prim.Native.Nat.{_^_, _/_, _%_, _≤_, _<_}
 use native.Mathlib.Omega.{arith}
 use lib.ListN.{length, drop, length-set}
 use Rattle.text.specs.Text.{glyph, numeral}
-use Rattle.text.specs.TextLaws.{numeral-digit, numeral-step, two-digits, below-before, digit-put}
+use Rattle.text.specs.laws.Numeral.{numeral-digit, numeral-step, two-digits, below-before, digit-put}
 use Rattle.text.proofs.append.numeral_of.Statement.{statement}
 use Rattle.text.proofs.append.numeral_of.Tie as tie
 
 abbrev Inv-loop : tie.InvT-loop
-Inv-loop x digits₀ start₀ rest₀ digits start rest = (1 ≤ start) × (start ≤ 20) × (length digits ≡ 20) × (rest < 10 ^ start) × (numeral rest ++ drop start digits ≡ numeral x)
+Inv-loop x digits₀ start₀ rest₀ digits start rest = (1 ≤ start) × (start ≤ 20) × (length digits ≡ 20) × (rest < 10 ^ start) ×
+    (numeral rest ++ drop start digits ≡ numeral x)
 
 abbrev μ-loop : tie.MeasureT-loop
 μ-loop x digits₀ start₀ rest₀ digits start rest = rest

@@ -3,7 +3,7 @@ use Prim.Native.Nat.{_+_, _*_, _/_, _%_, _<_}
 use native.Mathlib.Nat.{mod-lt}
 use native.Mathlib.Omega.{arith}
 use borrow.Author.Needs.{needs}
-use Rattle.text.specs.RowsLaws.{size-bound, place-slash, place-digit, place-entry}
+use Rattle.text.specs.laws.Rows.{size-bound, place-slash, place-digit, place-entry}
 use Rattle.text.proofs.rows.rows_byte.Statement.{statement}
 use Rattle.text.proofs.rows.rows_byte.Tie as tie
 

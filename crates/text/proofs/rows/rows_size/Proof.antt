@@ -2,14 +2,14 @@
 use mathlib.Core.Path.{_≡_}
 use native.Mathlib.Omega.{arith}
 use borrow.Author.Needs.{needs}
-use Rattle.text.specs.RowsLaws.{size-bound}
+use Rattle.text.specs.laws.Rows.{size-bound}
 use Rattle.text.proofs.rows.rows_size.Statement.{statement}
 use Rattle.text.proofs.rows.rows_size.Tie as tie
 
 returns : tie.Need-returns
 returns c =
     let e : c .before .args .k ≡ 0 = c .if1 .taken in
-    (rw e (omega arith), omega arith)
+    rw e (omega arith)
 
 mul-result : tie.Need-mul-result
 mul-result c =
@@ -27,10 +27,7 @@ add-result c =
     omega (arith, size-bound (a .n) (a .k) (p .1) (p .0))
 
 returns-2 : tie.Need-returns-2
-returns-2 c =
-    let a = c .before .args in
-    let p = c .before .pre in
-    omega (arith, size-bound (a .n) (a .k) (p .1) (p .0))
+returns-2 c = search needs
 
 pub rows-size-spec : {M : Type 1} → statement M
 rows-size-spec = tie.close (tie.spec returns mul-result sub-result add-result returns-2)

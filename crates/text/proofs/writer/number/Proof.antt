@@ -1,8 +1,10 @@
--- `text::writer::number` meets its contract: the walk of `Thin.antt`, with `append_number` for its callee, of which the proof knows only the contract.
+-- `text::writer::number` meets its contract: the walk of `Thin.antt`, with `append_number` for its callee, of which the proof knows only
+-- the contract.
 -- Assumes nothing.
 use mathlib.Core.Path.{refl}
 use mir.Syntax.{w64, tyInt}
 use mir.Val.{vint}
+use base.Logic.{emp}
 use contract.Running.{givenOf, tables, tablesOf}
 use denote.Builtin.{u64}
 use denote.Plain.{uint-makes, uint-tells, uint-lawful}
@@ -25,6 +27,8 @@ number-spec 𝓤 H 𝓜 𝓖 𝓡 =
     let W = givenOf 𝓤 H 𝓜 𝓖 in
     entered 𝓤 H (tripleOf 𝓤 H (𝓖 .A) number.signature (number.spec 𝓤 H (𝓖 .A) (𝓜 .mem) (𝓡 .run)))
     (tables 𝓤 H 𝓜 𝓡 code.env .C) (tables 𝓤 H 𝓜 𝓡 code.env .Λ) #number code.function (code.unfolded 𝓤 H 𝓜 𝓡)
-    (thin.meets 𝓤 H (𝓖 .A) W u64 numeral (tyInt w64) (vint w64) (λ v is. uint-lawful 𝓤 H (𝓖 .A) W w64 .typed v _ is .0) (uint-tells w64) (uint-makes 𝓤 H (𝓖 .A) W w64)
-    (λ _. tt) (λ _ _. refl) (tablesOf 𝓤 H 𝓜 (tables 𝓤 H 𝓜 𝓡 code.env)) #callee
-    (cited 𝓤 H (tripleOf 𝓤 H (𝓖 .A) callee.signature (callee.spec 𝓤 H (𝓖 .A) (𝓜 .mem) (𝓡 .run))) 𝓜 𝓡 code.env #callee callee-def.routine code.calls-text·append·append-number (callee-thm.met 𝓤 H 𝓜 𝓖 𝓡)))
+    (thin.meets 𝓤 H (𝓖 .A) W u64 numeral (λ _. emp 𝓤) (vint w64) (uint-makes 𝓤 H (𝓖 .A) W w64)
+    (tyInt w64) (λ v is. uint-lawful 𝓤 H (𝓖 .A) W w64 .typed v _ is .0) (uint-tells w64) (λ _. tt) (λ _ _. refl)
+    (tablesOf 𝓤 H 𝓜 (tables 𝓤 H 𝓜 𝓡 code.env)) #callee
+    (cited 𝓤 H (tripleOf 𝓤 H (𝓖 .A) callee.signature (callee.spec 𝓤 H (𝓖 .A) (𝓜 .mem) (𝓡 .run))) 𝓜 𝓡 code.env #callee callee-def.routine
+    code.calls-text·append·append-number (callee-thm.met 𝓤 H 𝓜 𝓖 𝓡)))

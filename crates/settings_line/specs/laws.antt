@@ -1,0 +1,7 @@
+-- Laws that the proofs cite; no part of the meaning.
+pub mod Decimal
+pub mod Field
+pub mod Numeral
+pub mod Parse
+pub mod ReadDigits
+pub mod Run
