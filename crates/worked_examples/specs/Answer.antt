@@ -3,7 +3,8 @@
 --                  before the call
 --   answer      == document 01's numbers for the call, by the definitions that the contracts cite: the refusal number (0 for none), then
 --                  what the call answers (count; index; dimension; 1 for "raised"), then the lent buffer or the receiver afterwards; of the
---                  list program, all that it writes; of an index, its summands
+--                  list program, all that it writes; of an index, its summands; of the line
+--                  writer, 1 where the piece fits, how far the buffer is then filled, and the buffer
 --   Example     == a call and what it must answer
 --   lent size   == a buffer painted with 165s
 --   receiver, image == a receiver by its fields, entries of 0 after the given ones; and back
@@ -16,6 +17,7 @@ use Rattle.basics.specs.Sum.{bit}
 use Rattle.settings.specs.Settings.{countOf, countNumber, countValue}
 use Rattle.ferrers.specs.Ferrers.{size, diagram, diagramPlace, largerDiagrams, tableauValue}
 use Rattle.listing.specs.Listing.{listingOutput}
+use Rattle.text.specs.Piece.{fits, placeAfter, bufferAfter}
 use Rattle.draw.specs.Draw.{drawRefusal, drawBuffer}
 use Rattle.number.specs.Number.{numberOf, answerNumber, answerIndex}
 use Rattle.convert.specs.Convert.{convertOf}
@@ -41,6 +43,7 @@ pub data Call : Type 0 where
   close : (r : Receiver) (t : ℕ) → Call
   list : (input : List ℕ) → Call
   summands : (q n k : ℕ) (m : List ℕ) → Call
+  write : (buffer : List ℕ) (filled : ℕ) (piece : List ℕ) → Call
 
 abbrev pub lent : ℕ → List ℕ
 lent size = replicate size 165
@@ -76,6 +79,8 @@ answer (summands q n k m) =
     ∷ q ^ size n k m * diagramPlace k (n - k) (diagram n k m) (size n k m)
     ∷ tableauValue q n k m
     ∷ []
+answer (write buffer filled piece) =
+    bit (fits (length buffer) filled piece) ∷ placeAfter (length buffer) filled piece ∷ bufferAfter buffer filled piece
 
 pub record Example : Type 0 where
   pub call : Call

@@ -1,12 +1,12 @@
 -- Refusals, call by call: each alone, each two neighbours in document 01's order together, and what is left in each case.
 --   refusals  == the table
 -- Assumes nothing.
-use mathlib.Core.List.{List, [], _∷_}
+use mathlib.Core.List.{List, [], _∷_, _++_}
 use Prim.Native.Nat.{ℕ}
 use lib.ListN.{replicate}
 use Rattle.receiver.specs.declared.Receiver.{Receiver}
 use Rattle.worked_examples.specs.Answer.{Example, _⇒_, lent, receiver, image, paper}
-use Rattle.worked_examples.specs.Answer.{count, draw, number, convert, reduce, receive, receiveC, start, takeValue, takeLent, close, list}
+use Rattle.worked_examples.specs.Answer.{count, draw, number, convert, reduce, receive, receiveC, start, takeValue, takeLent, close, list, write}
 
 -- receivers of 2,3,2 that hold no row, the row 110, the rows 101/011, and all three unit rows; one of 2,3,1 that holds 010
 abbrev noRows : Receiver
@@ -281,4 +281,9 @@ refusals =
     -- and where none applies the header and the lines: `/` stands between rows
     ∷ (list (50 ∷ 44 ∷ 50 ∷ 44 ∷ 50 ∷ 10 ∷ []) ⇒ (101 ∷ 120 ∷ 116 ∷ 101 ∷ 110 ∷ 100 ∷ 101 ∷ 100 ∷ 44 ∷ 102 ∷ 101 ∷ 114 ∷ 114 ∷ 101 ∷ 114 ∷ 115 ∷ 44 ∷ 114 ∷ 111 ∷ 119 ∷ 115 ∷ 10 ∷ 48 ∷ 44 ∷ 48 ∷ 44 ∷ 49 ∷ 48 ∷ 47 ∷ 48 ∷ 49 ∷ 10 ∷ []))
     ∷ (list (48 ∷ 44 ∷ 51 ∷ 44 ∷ 49 ∷ 10 ∷ []) ⇒ refused1)
+    -- the line writer, lent 320 bytes: a piece that exactly fills them fits, one byte more does not, and then all stays
+    ∷ (write (lent 320) 316 (1 ∷ 2 ∷ 3 ∷ 4 ∷ []) ⇒ (1 ∷ 320 ∷ (replicate 316 165 ++ (1 ∷ 2 ∷ 3 ∷ 4 ∷ []))))
+    ∷ (write (lent 320) 317 (1 ∷ 2 ∷ 3 ∷ 4 ∷ []) ⇒ (0 ∷ 317 ∷ lent 320))
+    ∷ (write (lent 4) 0 (1 ∷ 2 ∷ 3 ∷ 4 ∷ 5 ∷ []) ⇒ (0 ∷ 0 ∷ lent 4))
+    ∷ (write (lent 4) 4 [] ⇒ (1 ∷ 4 ∷ lent 4))
     ∷ []
