@@ -64,7 +64,7 @@ module _ (r : Receiver) (row : List ℕ) where
   take-told a e = cases (ℕ-discrete (takeRefusal r row) 0)
     where
       grew : Bool
-      grew = ltb (r .dimension) (dimension (r .q) (r .n) (heldRows r ++ (row ∷ [])))
+      grew = ltb (r .dimension) (((takenIn r row) .receiver) .dimension)
 
       cases : Dec (takeRefusal r row ≡ 0)
           → (takeNumber (a .answer) ≡ takeRefusal r row) × (takeRaised (a .answer) ≡ ltb (r .dimension) ((a .receiver) .dimension))
