@@ -1,5 +1,6 @@
 -- `draw::draw` meets its contract: a refusal touches nothing, and what is not refused is filled.
 use mathlib.Core.Path.{_≡_, _∙_, sym}
+use native.Mathlib.Omega.{arith}
 use lib.ListN.{length}
 use Rattle.refusal.specs.laws.First.{kept}
 use Rattle.draw.specs.Draw.{drawRefusal, drawBuffer}
@@ -19,7 +20,7 @@ unfolding drawBuffer
 returns c = let e = c .before .draw-refusal .ensures in (e, kept _ _ _ (λ z. c .if1 .taken (e ∙ z)))
 
 unrank-requires : tie.Need-unrank-requires
-unrank-requires c κs = let a = draw-accepted _ _ _ _ _ _ (unrefused (c .before)) in (a .choice .settings, a .inside, a .sized)
+unrank-requires c κs = let a = draw-accepted _ _ _ _ _ _ (unrefused (c .before)) in (a .choice .settings, omega (arith, a .inside), a .sized)
 
 same-length : tie.Need-same-length
 same-length c = search needs

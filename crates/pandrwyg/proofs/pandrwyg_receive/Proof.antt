@@ -4,7 +4,7 @@ use Prim.Native.Nat.{_<_}
 use native.Mathlib.Omega.{arith}
 use lib.ListN.{length}
 use Rattle.linear.specs.ReducedOf.{reduced-le}
-use Rattle.refusal.specs.laws.First.{kept, done}
+use Rattle.refusal.specs.laws.First.{first-refused, kept, done}
 use Rattle.receive.specs.Answer.{receivedNumber, receivedDimension}
 use Rattle.receive.specs.laws.ReducedAnswer.{received-reduced}
 use Rattle.receive.specs.laws.Space.{space-small}
@@ -30,8 +30,7 @@ returns c =
     let e = c .before .exported-refusal .ensures in
     let refusal = exportedRefusal (a .q) (a .n) (a .k) (a .t) (a .row-count) (a .rows .now) (length (a .answer .now)) in
     let r = kept refusal _ (Refused refusal) (λ z. c .if1 .taken (e ∙ z)) in
-    let number = e ∙ ap receivedNumber r in
-    (number, (ap (leftBytes (a .k) (a .answer .now)) r, number ∙ exported-told _ _ _ _ _ _ (length (a .answer .now)) .number))
+    (e ∙ ap receivedNumber r, (ap (leftBytes (a .k) (a .answer .now)) r, e ∙ sym (first-refused _ _ (λ z. c .if1 .taken (e ∙ z)))))
 
 reduced-answer-requires : tie.Need-reduced-answer-requires
 reduced-answer-requires c κs =

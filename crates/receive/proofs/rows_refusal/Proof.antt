@@ -6,6 +6,7 @@ use borrow.Author.Tests.{eq-eqb, ne-eqb, le-leb, lt-leb}
 use Rattle.refusal.specs.laws.First.{first-refused, first-passed, test-refused, test-passed}
 use Rattle.numbering.specs.Numbering.{choiceRefusal}
 use Rattle.numbering.specs.laws.Chosen.{chosen}
+use Rattle.reduce.specs.Reduce.{mostRows}
 use Rattle.receive.specs.Receive.{rowsRefusal}
 use Rattle.receive.specs.laws.ReceiveAccepted.{rows-unrefused}
 use borrow.Author.Needs.{needs}
@@ -24,7 +25,9 @@ returns c = let e = c .before .choice-refusal .ensures in e ∙ sym (first-refus
 
 returns-2 : tie.Need-returns-2
 unfolding rowsRefusal
-returns-2 c = sym (first-passed _ _ (chose (c .before)) ∙ test-refused _ _ _ tt (lt-leb _ _ (c .if2 .taken)))
+returns-2 c =
+    let a = c .before .before .before .args in
+    sym (first-passed _ _ (chose (c .before)) ∙ test-refused _ _ _ tt (lt-leb (a .row-count) mostRows (omega (arith, c .if2 .taken))))
 
 mul-if3 : tie.Need-mul-if3
 mul-if3 c =

@@ -55,7 +55,7 @@ module _ (r : Receiver) where
             let at : r .dimension * r .n + (i - r .dimension * r .n) ≡ i = omega arith in
             let below =
             entries-below 1 (unused r) (and-left (entriesBelow 1 (unused r)) _ t₃) (i - r .dimension * r .n)
-            (rw (length-drop (r .dimension * r .n) (r .entries)) (omega arith))
+            (simp length-drop (omega arith))
             in
             ap (λ x. getD (r .entries) x 0) (sym at) ∙ sym (getD-drop (r .dimension * r .n) (r .entries) (i - r .dimension * r .n) 0)
             ∙ omega (arith, below);

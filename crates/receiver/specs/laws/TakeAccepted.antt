@@ -5,7 +5,7 @@
 -- Assumes nothing.
 use mathlib.Core.Path.{_≡_, refl, sym, _∙_, subst}
 use mathlib.Core.Bool.{Bool, true, false}
-use mathlib.Core.List.{List, [], _∷_, _++_}
+use mathlib.Core.List.{List, [], _∷_}
 use Prim.Native.Nat.{ℕ}
 use native.Mathlib.Decide.{ℕ-discrete}
 use native.Mathlib.Omega.{arith}
@@ -16,12 +16,11 @@ use Rattle.basics.specs.Choice.{pick, holds}
 use Rattle.refusal.specs.Refusal.{receiverRefusal, lengthRefusal, entryRefusal, numberingRefusal, refuseUnless}
 use Rattle.refusal.specs.laws.First.{test-zero, test-passed, first-none, kept, done}
 use Rattle.matrix.specs.Matrix.{entriesBelow}
-use Rattle.linear.specs.Eliminate.{dimension}
 use Rattle.numbering.specs.Numbering.{isNumbering}
 use Rattle.receive.specs.Answer.{Told}
 use Rattle.receive.specs.laws.Space.{space-told, refused-told}
 use Rattle.receive.specs.declared.Received.{Received}
-use Rattle.receiver.specs.Receiver.{used, wellFormed, heldRows, holding, takeRefusal, takenIn, takeOf, closeRefusal, closeOf, takeNumber, takeRaised}
+use Rattle.receiver.specs.Receiver.{used, wellFormed, holding, takeRefusal, takenIn, takeOf, closeRefusal, closeOf, takeNumber, takeRaised}
 use Rattle.receiver.specs.declared.Receiver.{Receiver}
 use Rattle.receiver.specs.declared.Taken.{Taken}
 use Rattle.receiver.specs.declared.TakeAnswer.the-variants.{Raised, Held, Refused}
@@ -64,7 +63,7 @@ module _ (r : Receiver) (row : List ℕ) where
   take-told a e = cases (ℕ-discrete (takeRefusal r row) 0)
     where
       grew : Bool
-      grew = ltb (r .dimension) (dimension (r .q) (r .n) (heldRows r ++ (row ∷ [])))
+      grew = ltb (r .dimension) (((takenIn r row) .receiver) .dimension)
 
       cases : Dec (takeRefusal r row ≡ 0)
           → (takeNumber (a .answer) ≡ takeRefusal r row) × (takeRaised (a .answer) ≡ ltb (r .dimension) ((a .receiver) .dimension))
@@ -73,7 +72,7 @@ module _ (r : Receiver) (row : List ℕ) where
           (done _ _ _ z ∙ sym e) (unrefused-told grew ∙ sym z, raised-told grew)
       cases (no z) =
           subst (λ x. (takeNumber (x .answer) ≡ takeRefusal r row) × (takeRaised (x .answer) ≡ ltb (r .dimension) ((x .receiver) .dimension)))
-          (kept _ _ _ z ∙ sym e) (refl, sym (le-ltb (r .dimension) (r .dimension) (omega arith)))
+          (kept _ _ _ z ∙ sym e) (refl, sym (le-ltb (r .dimension) _ (omega arith)))
 
 pub record CloseAccepted (r : Receiver) (t : ℕ) : Type 0 where
   pub formed : wellFormed r ≡ true

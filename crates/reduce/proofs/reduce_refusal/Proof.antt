@@ -9,7 +9,7 @@ use Rattle.refusal.specs.laws.First.{test-refused, test-passed}
 use Rattle.field.specs.Field.{isFieldSize}
 use Rattle.settings.specs.Settings.{rowLengthOk}
 use Rattle.settings.specs.laws.Accepted.{row-length-fits}
-use Rattle.reduce.specs.Reduce.{reduceRefusal}
+use Rattle.reduce.specs.Reduce.{mostRows, reduceRefusal}
 use Rattle.reduce.specs.laws.ReduceAccepted.{reduce-unrefused}
 use borrow.Author.Needs.{needs}
 use Rattle.reduce.proofs.reduce_refusal.Statement.{statement}
@@ -21,8 +21,8 @@ sized c = sym (c .before .is-size .ensures) ∙ not-false _ (c .if1 .left)
 long-enough : (c : tie.Else2) → rowLengthOk (c .before .before .before .before .before .args .n) ≡ true
 long-enough c = sym (c .before .row-length-ok .ensures) ∙ not-false _ (c .if2 .left)
 
-product : (n r : ℕ) → rowLengthOk n ≡ true → r ≤ 64 → r * n ≤ 1024
-product n r l h = mul-le-mul {n₁ = r} {m₁ = n} {n₂ = 64} {m₂ = 16} h (row-length-fits n l .1)
+product : (n r most : ℕ) → rowLengthOk n ≡ true → r ≤ most → r * n ≤ most * 16
+product n r most l h = mul-le-mul {n₁ = r} {m₁ = n} {n₂ = most} {m₂ = 16} h (row-length-fits n l .1)
 
 square : (n : ℕ) → rowLengthOk n ≡ true → n * n ≤ 256
 square n l = mul-le-mul {n₁ = n} {m₁ = n} {n₂ = 16} {m₂ = 16} (row-length-fits n l .1) (row-length-fits n l .1)
@@ -48,16 +48,20 @@ returns-2 c =
 begun : (c : tie.Else3) → let a = c .before .before .before .before .before .before .args in (isFieldSize (a .q) ≡ true) × (rowLengthOk (a .n) ≡ true)
 begun c = (sized (c .before .before .before), long-enough (c .before))
 
+few : (c : tie.Else3) → c .before .before .before .before .before .before .args .row-count ≤ mostRows
+few c = omega (arith, c .if3 .left)
+
 returns-3 : tie.Need-returns-3
 unfolding reduceRefusal
 returns-3 c =
+    let a = c .before .before .before .before .before .before .args in
     sym
     (test-passed _ _ _ (sized (c .before .before .before))
     ∙ test-passed _ _ _ (long-enough (c .before))
-    ∙ test-refused _ _ _ tt (lt-leb _ _ (c .if3 .taken)))
+    ∙ test-refused _ _ _ tt (lt-leb (a .row-count) mostRows (omega (arith, c .if3 .taken))))
 
 mul-if4 : tie.Need-mul-if4
-mul-if4 c = omega (arith, product _ _ (long-enough (c .before)) (c .if3 .left))
+mul-if4 c = omega (arith, product _ _ _ (long-enough (c .before)) (c .if3 .left))
 
 returns-4 : tie.Need-returns-4
 unfolding reduceRefusal
@@ -66,11 +70,11 @@ returns-4 c =
     sym
     (test-passed _ _ _ (begun l .0)
     ∙ test-passed _ _ _ (begun l .1)
-    ∙ test-passed _ _ _ (le-leb _ _ (l .if3 .left))
+    ∙ test-passed _ _ _ (le-leb _ _ (few l))
     ∙ test-refused _ _ _ tt (ne-eqb _ _ (c .if4 .taken)))
 
 mul-if5 : tie.Need-mul-if5
-mul-if5 c = omega (arith, square _ (long-enough (c .before .before)))
+mul-if5 c = let l = long-enough (c .before .before) in omega (arith, square _ l, row-length-fits _ l .1)
 
 returns-5 : tie.Need-returns-5
 unfolding reduceRefusal
@@ -79,7 +83,7 @@ returns-5 c =
     sym
     (test-passed _ _ _ (begun l .0)
     ∙ test-passed _ _ _ (begun l .1)
-    ∙ test-passed _ _ _ (le-leb _ _ (l .if3 .left))
+    ∙ test-passed _ _ _ (le-leb _ _ (few l))
     ∙ test-passed _ _ _ (eq-eqb _ _ (c .before .if4 .left))
     ∙ test-refused _ _ _ tt (ne-eqb _ _ (c .if5 .taken)))
 
@@ -94,7 +98,7 @@ returns-6 c =
     sym
     (test-passed _ _ _ (begun l .0)
     ∙ test-passed _ _ _ (begun l .1)
-    ∙ test-passed _ _ _ (le-leb _ _ (l .if3 .left))
+    ∙ test-passed _ _ _ (le-leb _ _ (few l))
     ∙ test-passed _ _ _ (eq-eqb _ _ (o .before .if4 .left))
     ∙ test-passed _ _ _ (eq-eqb _ _ (o .if5 .left))
     ∙ test-refused _ _ _ tt (sym (c .before .entries-below .ensures) ∙ not-true _ (c .if6 .taken)))
@@ -104,7 +108,7 @@ returns-7 c =
     let o = c .before .before in
     let l = o .before .before in
     sym
-    (reduce-unrefused _ _ _ _ _ (begun l .0) (begun l .1) (l .if3 .left) (o .before .if4 .left) (o .if5 .left)
+    (reduce-unrefused _ _ _ _ _ (begun l .0) (begun l .1) (few l) (o .before .if4 .left) (o .if5 .left)
     (sym (c .before .entries-below .ensures) ∙ not-false _ (c .if6 .left)))
 
 pub reduce-refusal-spec : {M : Type 1} → statement M

@@ -37,9 +37,9 @@ returns-2 c =
 returns-3 : tie.Need-returns-3
 unfolding settingsRefusal shapeOk
 returns-3 c =
-    sym
-    (test-passed _ _ _ (sized (c .before .before .before))
-    ∙ test-refused _ _ _ tt (rw (long-enough (c .before), lt-leb _ _ (c .if3 .taken))))
+    let a = c .before .before .before .before .before .args in
+    let wide = lt-leb (a .k) (a .n) (omega (arith, row-length-fits _ (long-enough (c .before)) .1, c .if3 .taken)) in
+    sym (test-passed _ _ _ (sized (c .before .before .before)) ∙ test-refused _ _ _ tt (rw (long-enough (c .before), wide)))
 
 coefficient-requires : tie.Need-coefficient-requires
 coefficient-requires c κs =
@@ -50,14 +50,14 @@ returns-4 : tie.Need-returns-4
 returns-4 c =
     let b = c .before .before in
     sym
-    (count-refused _ _ _ (sized (b .before .before .before)) (long-enough (b .before)) (b .if3 .left)
+    (count-refused _ _ _ (sized (b .before .before .before)) (long-enough (b .before)) (omega (arith, b .if3 .left))
     (sym (c .before .coefficient .ensures) ∙ c .if4 .taken))
 
 returns-5 : tie.Need-returns-5
 returns-5 c =
     let b = c .before .before in
     sym
-    (count-accepted _ _ _ (sized (b .before .before .before)) (long-enough (b .before)) (b .if3 .left)
+    (count-accepted _ _ _ (sized (b .before .before .before)) (long-enough (b .before)) (omega (arith, b .if3 .left))
     (λ e. c .if4 .left (c .before .coefficient .ensures ∙ e)))
 
 pub settings-refusal-spec : {M : Type 1} → statement M

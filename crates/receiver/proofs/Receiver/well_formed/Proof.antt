@@ -27,9 +27,12 @@ tells r b e = ap (λ x. pick x (identifying (r .n) (r .dimension) (used r)) 0) e
 settled : (c : tie.Else1) → let r = c .before .before .args .self in settingsRefusal (r .q) (r .n) (r .k) ≡ 0
 settled c = sym (c .before .settings-refusal .ensures) ∙ c .if1 .left
 
+low : (c : tie.Else2) → let r = c .before .before .before .before .args .self in r .dimension ≤ r .n
+low c = omega (arith, c .if2 .left)
+
 -- the entries that are used are among the 256
 short : (c : tie.Else2) → let r = c .before .before .before .before .args .self in r .dimension * r .n ≤ 256
-short c = used-fit _ _ _ _ (settled (c .before .before)) (c .if2 .left)
+short c = used-fit _ _ _ _ (settled (c .before .before)) (low c)
 
 whole : (c : tie.Start) → length (c .args .self .entries) ≡ 256
 whole c = search needs
@@ -68,7 +71,11 @@ returns c =
     let e = formed-settings _ (λ z. c .if1 .taken (c .before .settings-refusal .ensures ∙ z)) in (e, tells _ _ e)
 
 returns-2 : tie.Need-returns-2
-returns-2 c = let e = formed-dimension _ (settled (c .before .before)) (c .if2 .taken) in (e, tells _ _ e)
+returns-2 c =
+    let s = settled (c .before .before) in
+    let r = c .before .before .before .before .args .self in
+    let e = formed-dimension r s (omega (arith, accepted _ _ _ s .dimension, c .if2 .taken)) in
+    (e, tells _ _ e)
 
 mul-size : tie.Need-mul-size
 mul-size c = omega (arith, short (c .before .before))
@@ -85,7 +92,7 @@ entries-below-requires c κs = search needs
 returns-3 : tie.Need-returns-3
 returns-3 c =
     let b = c .before .before .before .before .before in
-    let e = formed-entries _ (settled (b .before .before)) (b .if2 .left) (sym (c .before .entries-below .ensures) ∙ not-true _ (c .if3 .taken)) in
+    let e = formed-entries _ (settled (b .before .before)) (low b) (sym (c .before .entries-below .ensures) ∙ not-true _ (c .if3 .taken)) in
     (e, tells _ _ e)
 
 sub-entries-below : tie.Need-sub-entries-below
@@ -105,7 +112,7 @@ returns-4 c =
     let e = c .before .before .before .before in
     let b = begun e in
     let z = sym (rest-told (c .before)) ∙ not-true _ (c .if4 .taken) in
-    let f = formed-rest _ (settled (b .before .before)) (b .if2 .left) (entries-fit e) z in
+    let f = formed-rest _ (settled (b .before .before)) (low b) (entries-fit e) z in
     (f, tells _ _ f)
 
 array-share-prefix-entries-2 : tie.Need-array-share-prefix-entries-2
@@ -125,7 +132,7 @@ returns-5 c =
     let e = l .before .before .before .before in
     let b = begun e in
     let z = sym (rest-told (l .before)) ∙ not-false _ (l .if4 .left) in
-    let f = formed-shape _ (settled (b .before .before)) (b .if2 .left) (entries-fit e) z in
+    let f = formed-shape _ (settled (b .before .before)) (low b) (entries-fit e) z in
     let found = c .reduced-vector .ensures in
     (found .0 ∙ f, found .1 ∙ tells _ _ f)
 
