@@ -45,8 +45,8 @@ fn write_listing_line(buffer: &mut [u8], q: u64, n: u64, k: u64, index: u64) -> 
         k as usize,
         ExtendedIndex(index),
     );
-    let vector = matrix::identifying(&entries[..size], n as usize, k as usize);
-    let ferrers = ferrers::rank(&entries[..size], q, n as usize, k as usize, vector);
+    let found = matrix::reduced_vector(&entries[..size], n as usize, k as usize);
+    let ferrers = ferrers::rank(&entries[..size], q, n as usize, k as usize, found.vector);
     text::line::write_line(
         buffer,
         index,

@@ -110,7 +110,7 @@ same-test false true f g = g tt
 same-test false false f g = refl
 
 module _ (n k : ℕ) (m : List ℕ) where
-  rising-far : ((i : ℕ) → suc i < k → pivot n m i < pivot n m (suc i)) → (i a : ℕ) → i < a → a < k → pivot n m i < pivot n m a
+  pub rising-far : ((i : ℕ) → suc i < k → pivot n m i < pivot n m (suc i)) → (i a : ℕ) → i < a → a < k → pivot n m i < pivot n m a
   rising-far rise i zero h g = absurd (not-suc-le-zero h)
   rising-far rise i (suc a) h g = cases (eq-or-lt-of-le (le-of-suc-le-suc h)) (rising-far rise i a)
     where

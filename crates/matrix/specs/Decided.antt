@@ -7,6 +7,7 @@
 --   clauses-of, clauses-true == a row's test holds exactly where they do
 --   pivotOf n k m i == the column of row i's pivot; n where there is no row i
 --   pivot-within    == of a row it is the pivot's
+--   reduced-true    == a Reduced matrix passes the test
 --   reduced-exactly == a matrix of the right length with its entries below q is Reduced exactly where isReduced holds
 -- Assumes nothing.
 use mathlib.Core.Path.{_≡_, refl, ap, ap₂, sym, _∙_}
@@ -18,7 +19,7 @@ use native.Mathlib.Omega.{arith}
 use borrow.Author.Tests.{lt-ltb, le-ltb, eq-eqb, ne-eqb, lt-leb, leb-false, eqb-false}
 use lib.Dec.{T, eqb, ltb, leb, ltb→lt, eqb→eq, leb→le}
 use lib.ListN.{length, getD}
-use Rattle.basics.specs.Choice.{pick, holds}
+use Rattle.basics.specs.Choice.{pick, holds, is-true}
 use Rattle.basics.specs.Order.{le-or-lt, same-or-not}
 use Rattle.basics.specs.All.{allBelow, allBelow-start, allBelow-at, allBelow-true, allBelow-false}
 use Rattle.basics.specs.Test.{and-left, and-right}
@@ -149,3 +150,8 @@ module _ (q n k : ℕ) (m : List ℕ) (sized : length m ≡ k * n) (below : T (e
           pivot-alone = r .pivot-alone i h;
         }))),
   )
+
+pub reduced-true : {q n k : ℕ} {m : List ℕ} → Reduced q n k m → isReduced n k m ≡ true
+reduced-true {q} {n} {k} {m} r =
+    let below = entries-below-true q m (λ place h. r .below place (omega (arith, r .size))) in
+    is-true _ (reduced-exactly q n k m (r .size) (holds _ below) .1 r)

@@ -210,18 +210,6 @@ pub fn insert(q: u64, n: usize, d: usize, row: &[u8], m: &mut [u8], pivots: &mut
     insert_residue(q, n, d, row, m, pivots)
 }
 
-// Writes the leads of the d rows of m to `pivots`.
-pub fn find_leads(n: usize, d: usize, m: &[u8], pivots: &mut [u8])
-    requires { ⌜ (n < 256) × (d * n ≤ length (now m)) × (d ≤ length (now pivots)) ⌝ }
-    ensures { λ _. ⌜ take d (now (pivots .exit)) ≡ leads n (rowsOf n d (now (m .entry))) ⌝ }
-{
-    let mut i = 0;
-    while i < d {
-        pivots[i] = matrix::lead(m, i * n, n) as u8;
-        i += 1;
-    }
-}
-
 // Takes the `count` rows of `input` into m, which is all zeros, and answers how many reduced rows it then holds. `pivots` is left with their
 // leads.
 pub fn reduce(
