@@ -225,10 +225,10 @@ pub fn vector_of(m: &[u8], pivots: &[u8], n: usize, k: usize) -> u16
     ensures { λ r. ⌜ r ≡ vectorOf n k (now (m .entry)) ⌝ }
 {
     let mut vector: u16 = 0;
-    let mut i = k;
-    while i > 0 {
-        i -= 1;
-        vector = add_pivot(vector, n, pivots[i] as usize);
+    let mut row = k;
+    while row > 0 {
+        row -= 1;
+        vector = add_pivot(vector, n, pivots[row] as usize);
     }
     vector
 }

@@ -69,7 +69,7 @@ shl-rest : tie.Need-shl-rest Inv-loop μ-loop
 shl-rest c = omega (arith, step c .inside, c .before .before .before .before .pre .0)
 
 sub-rest : tie.Need-sub-rest Inv-loop μ-loop
-sub-rest c = step c .enough
+sub-rest c = omega (arith, step c .enough)
 
 loop-less : tie.Need-loop-less Inv-loop μ-loop
 loop-less c = omega arith

@@ -7,24 +7,24 @@ use Rattle.matrix.proofs.vector_of.Statement.{statement}
 use Rattle.matrix.proofs.vector_of.Tie as tie
 
 abbrev Inv-loop : tie.InvT-loop
-Inv-loop m pivots n k vector₀ i₀ vector i = Adding n k m vector i
+Inv-loop m pivots n k vector₀ row₀ vector row = Adding n k m vector row
 
 abbrev μ-loop : tie.MeasureT-loop
-μ-loop m pivots n k vector₀ i₀ vector i = i
+μ-loop m pivots n k vector₀ row₀ vector row = row
 
 loop-holds : tie.Need-loop-holds Inv-loop μ-loop
 loop-holds c = adding-start (c .before .before .pre .1 .1)
 
-sub-i : tie.Need-sub-i Inv-loop μ-loop
-sub-i c = omega arith
+sub-row : tie.Need-sub-row Inv-loop μ-loop
+sub-row c = omega arith
 
 added : (c : tie.In-loop Inv-loop μ-loop) →
     let l = c .before in let a = l .before .before .before .args in
-    Added (a .n) (a .k) (a .m .now) (l .loop .vector) (l .loop .i) (getD (a .pivots .now) (l .loop .i - 1) 0)
+    Added (a .n) (a .k) (a .m .now) (l .loop .vector) (l .loop .row) (getD (a .pivots .now) (l .loop .row - 1) 0)
 added c =
     let l = c .before in
     let p = l .before .before .before .pre in
-    adding-step _ _ _ (p .0) (p .1 .1) (c .loop-test .taken) (p .3 (l .loop .i - 1) (omega (arith, l .loop .inv .within))) (l .loop .inv)
+    adding-step _ _ _ (p .0) (p .1 .1) (omega (arith, c .loop-test .taken)) (p .3 (l .loop .row - 1) (omega (arith, l .loop .inv .within))) (l .loop .inv)
 
 shared-slice-read-add-pivot : tie.Need-shared-slice-read-add-pivot Inv-loop μ-loop
 shared-slice-read-add-pivot c = omega (arith, c .before .before .before .before .before .pre .2, c .before .before .loop .inv .within)
@@ -52,7 +52,7 @@ vector-of-spec =
     Inv-loop
     μ-loop
     loop-holds
-    sub-i
+    sub-row
     shared-slice-read-add-pivot
     cast-add-pivot
     add-pivot-requires
