@@ -54,7 +54,12 @@ module _ (n k : ℕ) (m : List ℕ) (i p : ℕ) where
   pub above-rest : p < n → entry n m i p ≡ 1 → p < pivotOf n k m (suc i) → rowAbove n k m i p ≡ rowsAbove n m i p
   unfolding rowAbove
   above-rest h e g =
-      rw (lt-ltb p n h, eq-eqb (entry n m i p) 1 e, or-true (leb k (suc i)) (ltb p (pivot n m (suc i))) (λ f. lt-ltb p (pivot n m (suc i)) (rw (lt-leb k (suc i) (leb-false k (suc i) f)) at g)))
+      rw (
+        lt-ltb p n h,
+        eq-eqb (entry n m i p) 1 e,
+        or-true (leb k (suc i)) (ltb p (pivot n m (suc i)))
+            (λ f. lt-ltb p (pivot n m (suc i)) (rw (lt-leb k (suc i) (leb-false k (suc i) f)) at g)),
+      )
 
   -- the clauses that are left, as statements
   record Above : Type 0 where
@@ -122,7 +127,8 @@ module _ (n k : ℕ) (m : List ℕ) where
       same-test _ _
       (λ t.
       allBelow-true k _
-      (λ i h. above-true n k m i (pivot n m i) h (clauses-of n k m i (pivot n m i) (allBelow-at k (λ i. rowReduced n k m i (pivot n m i)) t i h))))
+      (λ i h. above-true n k m i (pivot n m i) h
+      (clauses-of n k m i (pivot n m i) (allBelow-at k (λ i. rowReduced n k m i (pivot n m i)) t i h))))
       (λ t.
       allBelow-true k _
       (λ i h.

@@ -63,7 +63,8 @@ pub below-none : (m : List ℕ) → entriesBelow 0 m ≡ eqb (length m) 0
 unfolding entriesBelow
 below-none m =
     ⊎-elim (λ (e : length m ≡ 0). ap (λ k. allBelow k (λ p. ltb (getD m p 0) 0)) e ∙ allBelow-start _ ∙ sym (eq-eqb (length m) 0 e))
-    (λ ne. allBelow-false (length m) (λ p. ltb (getD m p 0) 0) 0 (omega (arith, ne)) (le-ltb (getD m 0 0) 0 (omega arith)) ∙ sym (ne-eqb (length m) 0 ne))
+    (λ ne. allBelow-false (length m) (λ p. ltb (getD m p 0) 0) 0 (omega (arith, ne)) (le-ltb (getD m 0 0) 0 (omega arith))
+    ∙ sym (ne-eqb (length m) 0 ne))
     (same-or-not (length m) 0)
 
 pub or-other : (a b : Bool) → T (a || b) → (T a → ⊥) → T b
@@ -96,8 +97,7 @@ module _ (n k : ℕ) (m : List ℕ) (i p : ℕ) where
   pub test-of : (column : Bool) → T (rowTest n k m i p column) → Begun n k m i p × T column
   test-of column t =
       let t₁ = and-right (ltb p n) _ t in
-      let t₂ = and-right (eqb (entry n m i p) 1) _ t₁ in
-      (
+      let t₂ = and-right (eqb (entry n m i p) 1) _ t₁ in (
         record {
           no-zero-row = ltb→lt p n (and-left (ltb p n) _ t);
           pivot-one = eqb→eq (entry n m i p) 1 (and-left (eqb (entry n m i p) 1) _ t₁);

@@ -73,7 +73,8 @@ module _ {q n k : ℕ} {m : List ℕ} (narrow : n ≤ 16) (r : Reduced q n k m) 
       powers-multiple i (suc e) (λ a. n - 1 - pivot n m a)
       (λ a b. omega (arith, rising-far n k m (r .pivots-rise) a i b h, inside-row)) in
       let all : rest ≡ (1 + 2 * x) * 2 ^ e =
-      l .added ∙ ap (λ y. y + 2 ^ e) (s ∙ ap (λ y. x * y) (pow-succ' 2 e)) ∙ omega (arith, mul-left-comm x 2 (2 ^ e), add-mul 1 (2 * x) (2 ^ e)) in
+      l .added ∙ ap (λ y. y + 2 ^ e) (s ∙ ap (λ y. x * y) (pow-succ' 2 e))
+      ∙ omega (arith, mul-left-comm x 2 (2 ^ e), add-mul 1 (2 * x) (2 ^ e)) in
       lowest ∙ ap (trailingZeros 16) all ∙ trailing-of 16 e x (omega (arith, inside-row))
 
   power : 1 * 2 ^ j % 65536 ≡ rowPower n m i

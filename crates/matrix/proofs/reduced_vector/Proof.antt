@@ -41,7 +41,9 @@ returns : tie.Need-returns Inv-loop μ-loop
 returns c =
     let t = c .before .before .before in
     let a = t .before .before .before .before .args in
-    let fails = sym (gathered-fails (t .before .loop .inv) (t .loop-test .taken) (sym (c .before .row-reduced .ensures) ∙ not-true _ (c .if1 .taken))) in
+    let fails =
+    sym (gathered-fails (t .before .loop .inv) (t .loop-test .taken)
+    (sym (c .before .row-reduced .ensures) ∙ not-true _ (c .if1 .taken))) in
     (fails, ap (λ b. pick b (identifying (a .n) (a .k) (a .m .now)) 0) fails)
 
 gathering : (c : tie.Else1 Inv-loop μ-loop) →

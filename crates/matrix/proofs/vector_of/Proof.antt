@@ -24,7 +24,8 @@ added : (c : tie.In-loop Inv-loop μ-loop) →
 added c =
     let l = c .before in
     let p = l .before .before .before .pre in
-    adding-step _ _ _ (p .0) (p .1 .1) (omega (arith, c .loop-test .taken)) (p .3 (l .loop .row - 1) (omega (arith, l .loop .inv .within))) (l .loop .inv)
+    adding-step _ _ _ (p .0) (p .1 .1) (omega (arith, c .loop-test .taken)) (p .3 (l .loop .row - 1) (omega (arith, l .loop .inv .within)))
+    (l .loop .inv)
 
 shared-slice-read-add-pivot : tie.Need-shared-slice-read-add-pivot Inv-loop μ-loop
 shared-slice-read-add-pivot c = omega (arith, c .before .before .before .before .before .pre .2, c .before .before .loop .inv .within)
