@@ -50,7 +50,8 @@ module _ (q : ℕ) (laws : Laws q) (n : ℕ) (w : List ℕ) (hw : Row q n w) whe
   module _ (r : List ℕ) (hr : Row q n r) (h : leadOf n r < leadOf n w) where
     cleared-at : (j : ℕ) → j < leadOf n w → at q laws (eliminate q n w r) j ≡ at q laws r j
     cleared-at j b =
-        takenOff-kept (scalars q laws) (at q laws) (at q laws r (leadOf n w)) (eliminate-takes q laws n w r hw hr) j (at-before q laws n w j b)
+        takenOff-kept (scalars q laws) (at q laws) (at q laws r (leadOf n w)) (eliminate-takes q laws n w r hw hr) j
+        (at-before q laws n w j b)
 
     pub lead-cleared : leadOf n (eliminate q n w r) ≡ leadOf n r
     unfolding leadOf
@@ -67,7 +68,8 @@ module _ (q : ℕ) (laws : Laws q) (n : ℕ) (w : List ℕ) (hw : Row q n w) whe
     where
       cases : (leadOf n w ≤ leadOf n r) ⊎ (leadOf n r < leadOf n w)
           → leads n (place q n rs w) ≡ take (above n rs w) (leads n rs) ++ (leadOf n w ∷ drop (above n rs w) (leads n rs))
-          → leads n (place q n (r ∷ rs) w) ≡ take (above n (r ∷ rs) w) (leads n (r ∷ rs)) ++ (leadOf n w ∷ drop (above n (r ∷ rs) w) (leads n (r ∷ rs)))
+          → leads n (place q n (r ∷ rs) w) ≡ take (above n (r ∷ rs) w) (leads n (r ∷ rs))
+          ++ (leadOf n w ∷ drop (above n (r ∷ rs) w) (leads n (r ∷ rs)))
       cases (inl l) e = rw (le-ltb (leadOf n r) (leadOf n w) l) refl
       cases (inr l) e =
           rw (lt-ltb (leadOf n r) (leadOf n w) l) (ap₂ (λ (x : ℕ) (y : List ℕ). x ∷ y) (lead-cleared r h l) e)
@@ -115,8 +117,12 @@ raised-leads d at p pivots h room =
     sized : length (old ++ (p ∷ rest)) ≡ d + 1
     sized =
         length-append old (p ∷ rest)
-        ∙ omega
-        (arith, length-take-le at (take d pivots) (omega (arith, length-take-le d pivots (omega arith))), length-drop at (take d pivots), length-take-le d pivots (omega arith))
+        ∙ omega (
+          arith,
+          length-take-le at (take d pivots) (omega (arith, length-take-le d pivots (omega arith))),
+          length-drop at (take d pivots),
+          length-take-le d pivots (omega arith),
+        )
 
 module _ (q n d : ℕ) (m : List ℕ) (kept : Kept q n (rowsOf n d m)) where
   pivot-is : (i : ℕ) → i < d → pivot n (join (rowsOf n d m)) i ≡ leadOf n (take n (drop (i * n) m))

@@ -59,7 +59,12 @@ insert-requires c κs =
     let b = f .before .before .before .before in
     let n = fits b .narrow in (
       (fits b .size, lent-kept _ (whole b) (safe b), lent-held _ (whole b) (safe b), row-here b),
-      (omega (arith, n), lent-leads _ (whole b) (safe b) _ (omega (arith, n, safe b .fits, f .pivot-columns .kept)) (f .pivot-columns .ensures _ _ (safe b .reduced) (b .pre .1)), omega (arith, n)),
+      (
+        omega (arith, n),
+        lent-leads _ (whole b) (safe b) _ (omega (arith, n, safe b .fits, f .pivot-columns .kept))
+            (f .pivot-columns .ensures _ _ (safe b .reduced) (b .pre .1)),
+        omega (arith, n),
+      ),
     )
 
 returns : tie.Need-returns
