@@ -59,43 +59,44 @@ head-less {q} {n} (valid-free {x} b v) (valid-pivot {k} {s = t} w) h =
 head-less (valid-pivot v) (valid-free c w) h = absurd (omega arith)
 head-less (valid-pivot v) (valid-pivot w) h = absurd (omega arith)
 
-module _ {q N K : ℕ} {a b : List ℕ} (h : 0 < q) (w : Lex N (λ i. extendedColumn q N K a (suc i)) (λ i. extendedColumn q N K b (suc i))) where
-  -- the columns before the place of the order have been taken off: here it is, or the rightmost columns are the same
-  before-step : {k c : ℕ} {s t : Shape} → Located q N K a k (suc c) s → Located q N K b k (suc c) t → N - suc c ≤ w .at
-      → (columnCode q k s ≡ columnCode q k t → N - c ≤ w .at → extendedRank q s k (suc c) < extendedRank q t k (suc c))
-      → extendedRank q s k (suc c) < extendedRank q t k (suc c)
-  before-step {k} {c} {s} {t} l r g next = cases (eq-or-lt-of-le g)
-    where
-      here : N - c ≡ suc (N - suc c)
-      here = omega (arith, l .columns)
+module _ {q N K : ℕ} {a b : List ℕ} (h : 0 < q) (w : Lex N (λ i. extendedColumn q N K a (suc i)) (λ i. extendedColumn q N K b (suc i)))
+  where
+    -- the columns before the place of the order have been taken off: here it is, or the rightmost columns are the same
+    before-step : {k c : ℕ} {s t : Shape} → Located q N K a k (suc c) s → Located q N K b k (suc c) t → N - suc c ≤ w .at
+        → (columnCode q k s ≡ columnCode q k t → N - c ≤ w .at → extendedRank q s k (suc c) < extendedRank q t k (suc c))
+        → extendedRank q s k (suc c) < extendedRank q t k (suc c)
+    before-step {k} {c} {s} {t} l r g next = cases (eq-or-lt-of-le g)
+      where
+        here : N - c ≡ suc (N - suc c)
+        here = omega (arith, l .columns)
 
-      left : extendedColumn q N K a (suc (N - suc c)) ≡ columnCode q k s * q ^ (K - k)
-      left = rw (← here) (column-located (l .part) l)
+        left : extendedColumn q N K a (suc (N - suc c)) ≡ columnCode q k s * q ^ (K - k)
+        left = rw (← here) (column-located (l .part) l)
 
-      right : extendedColumn q N K b (suc (N - suc c)) ≡ columnCode q k t * q ^ (K - k)
-      right = rw (← here) (column-located (r .part) r)
+        right : extendedColumn q N K b (suc (N - suc c)) ≡ columnCode q k t * q ^ (K - k)
+        right = rw (← here) (column-located (r .part) r)
 
-      cases : (N - suc c ≡ w .at) ⊎ (N - suc c < w .at) → extendedRank q s k (suc c) < extendedRank q t k (suc c)
-      cases (inl e) =
-          head-less (peeled-valid (l .part)) (peeled-valid (r .part))
-          (lt-of-mul-lt-mul-right (q ^ (K - k))
-          (subst₂ (λ x y. x < y) left right (rw (← e) at (w .less))))
-      cases (inr d) =
-          next
-          (eq-of-mul-eq-mul-right (q ^ (K - k)) (one-le-pow (K - k) q h) (columnCode q k s) (columnCode q k t)
-          (sym left ∙ w .same (N - suc c) d ∙ right))
-          (omega (arith, here))
+        cases : (N - suc c ≡ w .at) ⊎ (N - suc c < w .at) → extendedRank q s k (suc c) < extendedRank q t k (suc c)
+        cases (inl e) =
+            head-less (peeled-valid (l .part)) (peeled-valid (r .part))
+            (lt-of-mul-lt-mul-right (q ^ (K - k))
+            (subst₂ (λ x y. x < y) left right (rw (← e) at (w .less))))
+        cases (inr d) =
+            next
+            (eq-of-mul-eq-mul-right (q ^ (K - k)) (one-le-pow (K - k) q h) (columnCode q k s) (columnCode q k t)
+            (sym left ∙ w .same (N - suc c) d ∙ right))
+            (omega (arith, here))
 
-  pub before-rank : {k c : ℕ} {s t : Shape} → Peeled q (entry N a) k c s → Peeled q (entry N b) k c t → Located q N K a k c s
-      → Located q N K b k c t → N - c ≤ w .at → extendedRank q s k c < extendedRank q t k c
-  unfolding extendedRank
-  before-rank peeled-empty peeled-empty l r g = absurd (omega (arith, w .within))
-  before-rank (peeled-free {k} {n} i p) (peeled-free j o) l r g =
-      before-step l r g
-      (λ e d. omega (arith, ap (λ x. x * gaussian q n k) e, before-rank p o (located-free l) (located-free r) d))
-  before-rank (peeled-free {k} {n} i p) (peeled-pivot _ _ _ o) l r g =
-      before-step l r g (λ e d. absurd (omega (arith, topValue-below q (entry N a) k n i)))
-  before-rank (peeled-pivot _ _ _ p) (peeled-free {k} {n} j o) l r g =
-      before-step l r g (λ e d. absurd (omega (arith, topValue-below q (entry N b) k n j)))
-  before-rank (peeled-pivot _ _ _ p) (peeled-pivot _ _ _ o) l r g =
-      before-step l r g (λ e d. omega (arith, before-rank p o (located-pivot l) (located-pivot r) d))
+    pub before-rank : {k c : ℕ} {s t : Shape} → Peeled q (entry N a) k c s → Peeled q (entry N b) k c t → Located q N K a k c s
+        → Located q N K b k c t → N - c ≤ w .at → extendedRank q s k c < extendedRank q t k c
+    unfolding extendedRank
+    before-rank peeled-empty peeled-empty l r g = absurd (omega (arith, w .within))
+    before-rank (peeled-free {k} {n} i p) (peeled-free j o) l r g =
+        before-step l r g
+        (λ e d. omega (arith, ap (λ x. x * gaussian q n k) e, before-rank p o (located-free l) (located-free r) d))
+    before-rank (peeled-free {k} {n} i p) (peeled-pivot _ _ _ o) l r g =
+        before-step l r g (λ e d. absurd (omega (arith, topValue-below q (entry N a) k n i)))
+    before-rank (peeled-pivot _ _ _ p) (peeled-free {k} {n} j o) l r g =
+        before-step l r g (λ e d. absurd (omega (arith, topValue-below q (entry N b) k n j)))
+    before-rank (peeled-pivot _ _ _ p) (peeled-pivot _ _ _ o) l r g =
+        before-step l r g (λ e d. omega (arith, before-rank p o (located-pivot l) (located-pivot r) d))

@@ -22,7 +22,8 @@ part-step : (q c k N K : ℕ) → 0 < q → k ≤ suc K → c ≤ suc N → suc 
     → (c ≡ suc N) ⊎ (c < suc N) → (k ≡ suc K) ⊎ (k < suc K) → gaussian q c k ≤ gaussian q (suc N) (suc K)
 part-step q c k N K h a b d r (inl e) g = let f : k ≡ suc K = omega arith in rw (e, f) (le-refl (gaussian q (suc N) (suc K)))
 part-step q c k N K h a b d r (inr l) (inl e) = le-trans (r (suc K) a (le-of-suc-le-suc l) (omega arith)) (gaussian-longer-le q N (suc K) h)
-part-step q c k N K h a b d r (inr l) (inr g) = le-trans (r K (le-of-suc-le-suc g) (le-of-suc-le-suc l) (omega arith)) (gaussian-pivot-le q N K)
+part-step q c k N K h a b d r (inr l) (inr g) =
+    le-trans (r K (le-of-suc-le-suc g) (le-of-suc-le-suc l) (omega arith)) (gaussian-pivot-le q N K)
 
 pub gaussian-part : (q c k N K : ℕ) → 0 < q → k ≤ K → c ≤ N → K - k ≤ N - c → gaussian q c k ≤ gaussian q N K
 unfolding gaussian

@@ -91,7 +91,9 @@ top-asked {q} {n} {k} {c} {rows} {m} a r inside few =
     = topValue-below q (entry n m) rows c (λ i h. r .below (i * n + c) (omega (arith, row-fits i k n (omega arith))))
     in
     let powers : q ^ rows ≤ 8 ^ 16
-    = le-trans (pow-le-pow-left (size .1) rows) (pow-le-pow-right {n = 8} (lit< tt) {i = rows} {j = 16} (omega (arith, a .dimension, a .narrow)))
+    =
+    le-trans (pow-le-pow-left (size .1) rows)
+    (pow-le-pow-right {n = 8} (lit< tt) {i = rows} {j = 16} (omega (arith, a .dimension, a .narrow)))
     in
     (omega arith, inside, omega (arith, r .size, mul-le-mul-right n few), omega (arith, below, powers))
 

@@ -19,7 +19,8 @@ use Rattle.matrix.specs.Matrix.{Reduced}
 use Rattle.matrix.specs.Peel.{peeled-of}
 use Rattle.matrix.specs.ShapeLaws.{peeled-valid}
 use Rattle.ferrers.specs.DiagramFormula.{diagram-formula, size-formula}
-use Rattle.ferrers.specs.Ferrers.{diagram, total, size, tableauValue, diagramPlace, largerDiagrams, ferrersIndex, ferrersBefore, larger, fuller, smaller}
+use Rattle.ferrers.specs.Ferrers.{diagram, total, size, tableauValue, diagramPlace, largerDiagrams, ferrersIndex, ferrersBefore}
+use Rattle.ferrers.specs.Ferrers.{larger, fuller, smaller}
 use Rattle.ferrers.specs.Formula.{ferrers-formula}
 use Rattle.ferrers.specs.Heights.{heights-length}
 use Rattle.ferrers.specs.Rising.{rank-larger, rank-fuller}

@@ -12,7 +12,8 @@
 use mathlib.Core.Path.{_≡_, refl, ap, ap₂, _∙_}
 use mathlib.Core.Logic.{_⊎_, inl, inr}
 use Prim.Native.Nat.{ℕ, zero, suc, _+_, _*_, _-_, _<_, _≤_, zero-le}
-use native.Mathlib.Nat.{zero-lt-suc, zero-add, sub-zero, not-suc-le-zero, le-of-suc-le-suc, le-of-eq, le-add-right, le-refl, lt-of-lt-of-le, le-add-left}
+use native.Mathlib.Nat.{zero-lt-suc, zero-add, sub-zero, not-suc-le-zero, le-of-suc-le-suc, le-of-eq, le-add-right, le-refl, lt-of-lt-of-le}
+use native.Mathlib.Nat.{le-add-left}
 use native.Mathlib.Omega.{arith}
 use borrow.Author.Tests.{ne-eqb}
 use lib.Dec.{eqb}
@@ -92,4 +93,5 @@ box-positive (suc n) (suc k) (suc η) m e h =
         → (k * suc η < m → 0 < boxCount n (suc k) (m - suc k)) → 0 < freeCount n (suc k) m + boxCount n k m
     cases (inl l) f g = lt-of-lt-of-le (f l) (le-add-left (boxCount n k m) (freeCount n (suc k) m))
     cases (inr l) f g =
-        lt-of-lt-of-le (rw (less-at (boxCount n (suc k)) m (suc k) (omega arith)) (g l)) (le-add-right (freeCount n (suc k) m) (boxCount n k m))
+        lt-of-lt-of-le (rw (less-at (boxCount n (suc k)) m (suc k) (omega arith)) (g l))
+        (le-add-right (freeCount n (suc k) m) (boxCount n k m))

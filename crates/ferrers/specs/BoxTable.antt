@@ -79,7 +79,8 @@ shifted-at k (x ∷ xs) m = ⊎-elim later sooner (le-or-lt k m)
         ∙ rw (lt-leb k m h)
 
 nextRows-at : (k : ℕ) (before : List ℕ) (rows : List (List ℕ)) (j m : ℕ)
-    → getD (getD (nextRows k before rows) j []) m 0 ≡ partitionsLess (λ x. getD (getD rows j []) x 0) m (k + j) + getD (getD (before ∷ rows) j []) m 0
+    → getD (getD (nextRows k before rows) j []) m 0
+    ≡ partitionsLess (λ x. getD (getD rows j []) x 0) m (k + j) + getD (getD (before ∷ rows) j []) m 0
 unfolding nextRows
 nextRows-at k before [] zero m = rw (less-none m (k + 0), zero-add)
 nextRows-at k before [] (suc j) m = rw (less-none m (k + suc j))
@@ -102,7 +103,8 @@ level-at (suc n) zero m =
     ∙ rw (le-leb 0 m zero-le, sub-zero)
 level-at (suc n) (suc k) m =
     nextRows-at 0 [] (level n) (suc k) m
-    ∙ ap₂ (λ a b. a + b) (ap (partitionsLess (λ x. getD (getD (level n) (suc k) []) x 0) m) (zero-add (suc k)) ∙ ap (λ c. pick (leb (suc k) m) c 0) (level-at n (suc k) (m - suc k)))
+    ∙ ap₂ (λ a b. a + b) (ap (partitionsLess (λ x. getD (getD (level n) (suc k) []) x 0) m) (zero-add (suc k))
+    ∙ ap (λ c. pick (leb (suc k) m) c 0) (level-at n (suc k) (m - suc k)))
     (level-at n k m)
 
 abbrev pub boxRow : ℕ → List ℕ

@@ -1,5 +1,5 @@
--- A shape from its diagram's place and its tableau, and back; no part of the meaning. By columns from the right: the places below the count of
--- diagrams that begin with a free column belong to those.
+-- A shape from its diagram's place and its tableau, and back; no part of the meaning. By columns from the right: the places below the count
+-- of diagrams that begin with a free column belong to those.
 --   Diagrammed q n k m d x s == s is the shape of a reduced matrix whose diagram, of size m, has the place d, and whose tableau is x
 --   free-fits                == a diagram that begins with a free column has that column's dots
 --   diagram-valid            == for d and x in their bounds diagramShape gives such a shape
@@ -8,7 +8,8 @@
 use mathlib.Core.Path.{_≡_, refl, ap, ap₂, _∙_, sym, subst}
 use mathlib.Core.Logic.{_⊎_, inl, inr}
 use Prim.Native.Nat.{ℕ, zero, suc, _+_, _*_, _-_, _^_, _/_, _%_, _<_, _≤_}
-use native.Mathlib.Nat.{pow-zero, div-lt-iff-lt-mul, div-add-mod', mod-lt, one-le-pow, le-add-right, add-sub-cancel-left, add-sub-of-le, suc-ne-zero}
+use native.Mathlib.Nat.{pow-zero, div-lt-iff-lt-mul, div-add-mod', mod-lt, one-le-pow, le-add-right, add-sub-cancel-left, add-sub-of-le}
+use native.Mathlib.Nat.{suc-ne-zero}
 use native.Mathlib.Omega.{arith}
 use borrow.Author.Tests.{lt-ltb, le-ltb, ne-eqb}
 use lib.Arith.{digits-div, digits-mod}
@@ -70,7 +71,8 @@ unfolding diagramShape Tried
 diagram-step q n k m d x h b t (inr l) r =
     let fits : k ≤ m = free-fits n k m d l in
     rw (lt-ltb d (freeCount n k m) l)
-    (diagrammed-free h fits t (r k (m - k) d (x % q ^ (m - k)) (rw (less-at (boxCount n k) m k fits) at l) (mod-lt x (one-le-pow (m - k) q h))))
+    (diagrammed-free h fits t (r k (m - k) d (x % q ^ (m - k)) (rw (less-at (boxCount n k) m k fits) at l)
+    (mod-lt x (one-le-pow (m - k) q h))))
 diagram-step q n zero m d x h b t (inl l) r = absurd (omega (arith, free-all n m))
 diagram-step q n (suc k) m d x h b t (inl l) r =
     rw (le-ltb d (freeCount n (suc k) m) l)

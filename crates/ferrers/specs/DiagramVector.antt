@@ -1,8 +1,9 @@
--- The identifying vector of a diagram, told by its size and place: the contract of `ferrers::vector_at`, and its steps; no part of the meaning.
+-- The identifying vector of a diagram, told by its size and place: the contract of `ferrers::vector_at`, and its steps; no part of the
+-- meaning.
 --   diagramVector n k m d == the identifying vector of the diagram of size m at place d, whatever its tableau
 --   diagram-vector        == it is that of the shape with such a diagram
---   Telling n k size place v c rows left earlier == v holds the bits of the columns from c on; of the diagrams of `left` dots in the first c
---                            columns, with `rows` rows, the one at the place `earlier` is left
+--   Telling n k size place v c rows left earlier == v holds the bits of the columns from c on; of the diagrams of `left` dots in the
+--                            first c columns, with `rows` rows, the one at the place `earlier` is left
 --   telling-start, -end   == no column is passed yet, and all are
 --   free-next             == where the place is among the diagrams that begin with a free column, that column's dots are there
 --   rows-left, bit-fits   == where it is not, a row is left for the pivot, and its bit fits 16 bits
@@ -40,7 +41,8 @@ pub diagram-vector : (q n k m d x : ℕ) → vector (diagramShape q n k m d x) �
 unfolding vector diagramShape diagramVector
 diagram-vector q zero k m d x = refl
 diagram-vector q (suc n) k m d x =
-    vector-either (ltb d (freeCount n k m)) _ _ _ _ _ (diagram-vector q n k (m - k) d _) (diagram-vector q n (pred k) m (d - freeCount n k m) x)
+    vector-either (ltb d (freeCount n k m)) _ _ _ _ _ (diagram-vector q n k (m - k) d _)
+    (diagram-vector q n (pred k) m (d - freeCount n k m) x)
 
 pub record Telling (n k size place v c rows left earlier : ℕ) : Type 0 where
   pub columns : c ≤ n

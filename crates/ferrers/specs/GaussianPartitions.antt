@@ -46,7 +46,8 @@ unfolding boxCount
 empty-weights q n zero h = absurd (not-suc-le-zero h)
 empty-weights q n (suc M) h =
     sum-front M (weight q n 0)
-    ∙ ap₂ (λ a b. a + b) (ap (λ x. 1 * x) (pow-zero q)) (sum-zeros M (λ i. weight q n 0 (suc i)) (λ i _. rw (ne-eqb (suc i) 0 (suc-ne-zero i), zero-mul)))
+    ∙ ap₂ (λ a b. a + b) (ap (λ x. 1 * x) (pow-zero q))
+    (sum-zeros M (λ i. weight q n 0 (suc i)) (λ i _. rw (ne-eqb (suc i) 0 (suc-ne-zero i), zero-mul)))
 
 pub gaussian-weights : (q n k M : ℕ) → k * n < M → gaussian q n k ≡ sum M (weight q n k)
 unfolding gaussian boxCount
@@ -55,7 +56,8 @@ gaussian-weights q zero (suc k) M h = sym (sum-zeros M (λ i. 0 * q ^ i) (λ i _
 gaussian-weights q (suc n) (suc k) M h =
     let e : suc k + (M - suc k) ≡ M = omega arith in
     ap₂ (λ a b. q ^ suc k * a + b) (gaussian-weights q n (suc k) (M - suc k) (omega arith)) (gaussian-weights q n k M (omega arith))
-    ∙ ap (λ a. a + sum M (weight q n k)) (sym (free-weights q n (suc k) (M - suc k)) ∙ ap (λ x. sum x (λ i. freeCount n (suc k) i * q ^ i)) e)
+    ∙ ap (λ a. a + sum M (weight q n k)) (sym (free-weights q n (suc k) (M - suc k))
+    ∙ ap (λ x. sum x (λ i. freeCount n (suc k) i * q ^ i)) e)
     ∙ sym (sum-add M (λ i. freeCount n (suc k) i * q ^ i) (weight q n k))
     ∙ sum-same M (λ i. freeCount n (suc k) i * q ^ i + weight q n k i) (weight q (suc n) (suc k))
     (λ i _. sym (add-mul (freeCount n (suc k) i) (boxCount n k i) (q ^ i)))
@@ -69,4 +71,5 @@ gaussian-sized q n k η e =
 pub gaussian-partitions : (q n k : ℕ) → k ≤ n → gaussian q n k ≡ sum (suc (k * (n - k))) (λ i. partitions k (n - k) i * q ^ i)
 gaussian-partitions q n k h =
     gaussian-sized q n k (n - k) (sym (add-sub-of-le h))
-    ∙ sum-same (suc (k * (n - k))) (weight q n k) (λ i. partitions k (n - k) i * q ^ i) (λ i _. ap (λ x. x * q ^ i) (box-partitions n k i h))
+    ∙ sum-same (suc (k * (n - k))) (weight q n k) (λ i. partitions k (n - k) i * q ^ i)
+    (λ i _. ap (λ x. x * q ^ i) (box-partitions n k i h))

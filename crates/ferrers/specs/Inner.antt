@@ -2,9 +2,9 @@
 --   rest s           == the shape s without its last column
 --   inner j s        == the shape s without its j last columns
 --   pivots s         == the number of its pivots, and so of its rows
---   Inner q n k S c rows s == the first c columns of the matrix with the shape S, of k rows and n columns, are those of the shape s, of `rows`
---                       rows; the identifying vector of s is that of S without the lowest n - c bits, and its tableau has the last digits
---                       of that of S
+--   Inner q n k S c rows s == the first c columns of the matrix with the shape S, of k rows and n columns, are those of the shape s, of
+--                       `rows` rows; the identifying vector of s is that of S without the lowest n - c bits, and its tableau has the last
+--                       digits of that of S
 --   inner-at         == so it is with S without its n - c last columns
 --   valid-none       == of no columns there is the empty shape alone
 -- Assumes nothing.
@@ -69,12 +69,14 @@ half n c v w h e =
     ∙ sym (div-div-eq-div-mul v (2 ^ (n - suc c)) 2)
     ∙ ap (λ y. y / 2) e
 
-inner-free : {q n k c rows x : ℕ} {S s : Shape} → suc c ≤ n → Valid q rows c s → Inner q n k S (suc c) rows (free x s) → Inner q n k S c rows s
+inner-free : {q n k c rows x : ℕ} {S s : Shape} → suc c ≤ n → Valid q rows c s → Inner q n k S (suc c) rows (free x s)
+    → Inner q n k S c rows s
 unfolding vector cell shapeSize shapeTableau
 inner-free {q} {n} {k} {c} {rows} {x} {S} {s} h v a =
     let two : 2 * vector s / 2 ≡ vector s = omega arith in
     let Q = q ^ shapeSize s rows in
-    let more : a .higher * (q ^ rows * Q) + (x * Q + shapeTableau q s rows) ≡ (a .higher * q ^ rows + x) * Q + shapeTableau q s rows = omega arith in
+    let more : a .higher * (q ^ rows * Q) + (x * Q + shapeTableau q s rows) ≡ (a .higher * q ^ rows + x) * Q + shapeTableau q s rows =
+    omega arith in
     record {
       few = a .few;
       valid = v;

@@ -1,5 +1,5 @@
--- Laws of partitions in a box. Document 001, Lemma 1: "p(k, η, m) satisfies the following recurrence relation: p(k, η, m) = p(k, η-1, m-k) +
--- p(k-1, η, m) with the initial conditions p(k, η, m) = 0 if m < 0 or m > η·k and p(k, η, 0) = 1."
+-- Laws of partitions in a box. Document 001, Lemma 1: "p(k, η, m) satisfies the following recurrence relation: p(k, η, m) = p(k, η-1, m-k)
+-- + p(k-1, η, m) with the initial conditions p(k, η, m) = 0 if m < 0 or m > η·k and p(k, η, 0) = 1."
 --   partitions-recurrence  == the recurrence
 --   partitions-zero        == 1 at m = 0
 --   partitions-beyond      == 0 at m > η·k

@@ -29,7 +29,8 @@ pub parts : {q n k : ℕ} {m : List ℕ} → Accepted q n k → Reduced q n k m 
 unfolding ferrersIndex
 parts {q} {n} {k} {m} a r =
     let (big, small) = size-small q (a .size) in
-    let one : 1 * placeOf n k m ≤ q ^ size n k m * placeOf n k m = mul-le-mul-right (placeOf n k m) (one-le-pow (size n k m) q (omega arith)) in
+    let one : 1 * placeOf n k m ≤ q ^ size n k m * placeOf n k m =
+    mul-le-mul-right (placeOf n k m) (one-le-pow (size n k m) q (omega arith)) in
     let b = index-below-count r in
     let c = a .counted in
     record {

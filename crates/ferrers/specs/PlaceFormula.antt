@@ -1,5 +1,5 @@
--- Formula (12) on a peeled shape; no part of the meaning. Formula (12) and the shape's place both go by the columns from the right: the first
--- column's sum over a from F_1 + 1 to k is what the pivot columns before it add.
+-- Formula (12) on a peeled shape; no part of the meaning. Formula (12) and the shape's place both go by the columns from the right: the
+-- first column's sum over a from F_1 + 1 to k is what the pivot columns before it add.
 --   firstTerm k η m f     == what the first column, of f dots, adds in formula (12), η columns being left after it
 --   place-front           == formula (12) by its first column
 --   place-longer          == formula (12) with one row more

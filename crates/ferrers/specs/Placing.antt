@@ -1,5 +1,6 @@
 -- The place of a reduced matrix's diagram, added up column by column from the right; no part of the meaning.
---   Placing q n k m c rows left place == c columns, `rows` rows and `left` dots are left, and `place` diagrams come before for the columns passed
+--   Placing q n k m c rows left place == c columns, `rows` rows and `left` dots are left, and `place` diagrams come before for the columns
+--                                        passed
 --   placing-start, -end == nothing is passed yet, and all is
 --   PlacedPivot, PlacedFree, placing-pivot, placing-free == one more column is passed, which has a pivot or is free
 -- Assumes nothing.
@@ -53,7 +54,8 @@ pub record PlacedFree (q n k : ℕ) (m : List ℕ) (c rows left place : ℕ) : T
   pub enough : rows ≤ left
   pub next : Placing q n k m (c - 1) rows (left - rows) place
 
-module _ {q n k c rows left place : ℕ} {m : List ℕ} (v : ℕ) (is : v ≡ identifying n k m) (some : 0 < c) (w : Placing q n k m c rows left place) where
+module _ {q n k c rows left place : ℕ} {m : List ℕ} (v : ℕ) (is : v ≡ identifying n k m) (some : 0 < c)
+    (w : Placing q n k m c rows left place) where
   pub placing-pivot : (f : ℕ) → f ≡ freeCount (c - 1) rows left → eqb (v / 2 ^ (n - c) % 2) 1 ≡ true
       → PlacedPivot q n k m c rows left (place + f)
   unfolding shapeSize shapePlace

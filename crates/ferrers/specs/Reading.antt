@@ -56,40 +56,43 @@ pub record ReadColumn (q n k : ℕ) (m : List ℕ) (c rows tableau : ℕ) : Type
   pub fits : tableau * q ^ rows + topValue q (entry n m) rows (c - 1) ≤ tableauValue q n k m
   pub next : Reading q n k m (c - 1) rows (tableau * q ^ rows + topValue q (entry n m) rows (c - 1))
 
-module _ {q n k c rows tableau : ℕ} {m : List ℕ} (v : ℕ) (is : v ≡ identifying n k m) (some : 0 < c) (w : Reading q n k m c rows tableau) where
-  pub reading-pivot : eqb (v / 2 ^ (n - c) % 2) 1 ≡ true → (1 ≤ rows) × Reading q n k m (c - 1) (rows - 1) tableau
-  unfolding shapeSize shapeTableau
-  reading-pivot t =
-      let p = walk-pivot v is (w .at) some t in
-      let row : pred rows ≡ rows - 1 = omega arith in
-      let size : shapeSize (p .rest) (rows - 1) ≡ shapeSize (w .shape) rows
-      = ap (shapeSize (p .rest)) (sym row) ∙ ap (λ s. shapeSize s rows) (sym (p .split))
-      in
-      let value : shapeTableau q (p .rest) (rows - 1) ≡ shapeTableau q (w .shape) rows
-      = ap (shapeTableau q (p .rest)) (sym row) ∙ ap (λ s. shapeTableau q s rows) (sym (p .split))
-      in (
-        p .some,
-        record {
-          shape = p .rest;
-          at = p .next;
-          whole = ap₂ (λ z y. tableau * q ^ z + y) size value ∙ w .whole;
-        },
-      )
+module _ {q n k c rows tableau : ℕ} {m : List ℕ} (v : ℕ) (is : v ≡ identifying n k m) (some : 0 < c) (w : Reading q n k m c rows tableau)
+  where
+    pub reading-pivot : eqb (v / 2 ^ (n - c) % 2) 1 ≡ true → (1 ≤ rows) × Reading q n k m (c - 1) (rows - 1) tableau
+    unfolding shapeSize shapeTableau
+    reading-pivot t =
+        let p = walk-pivot v is (w .at) some t in
+        let row : pred rows ≡ rows - 1 = omega arith in
+        let size : shapeSize (p .rest) (rows - 1) ≡ shapeSize (w .shape) rows
+        = ap (shapeSize (p .rest)) (sym row) ∙ ap (λ s. shapeSize s rows) (sym (p .split))
+        in
+        let value : shapeTableau q (p .rest) (rows - 1) ≡ shapeTableau q (w .shape) rows
+        = ap (shapeTableau q (p .rest)) (sym row) ∙ ap (λ s. shapeTableau q s rows) (sym (p .split))
+        in (
+          p .some,
+          record {
+            shape = p .rest;
+            at = p .next;
+            whole = ap₂ (λ z y. tableau * q ^ z + y) size value ∙ w .whole;
+          },
+        )
 
-  pub reading-free : 0 < q → eqb (v / 2 ^ (n - c) % 2) 1 ≡ false → ReadColumn q n k m c rows tableau
-  unfolding shapeSize shapeTableau
-  reading-free positive t =
-      let p = walk-free v is (w .at) some t in
-      let x : ℕ = topValue q (entry n m) rows (c - 1) in
-      let z : ℕ = shapeSize (p .rest) rows in
-      let all : (tableau * q ^ rows + x) * q ^ z + shapeTableau q (p .rest) rows ≡ tableauValue q n k m
-      = sym (read-next tableau (q ^ rows) (q ^ z) x (shapeTableau q (p .rest) rows))
-      ∙ ap (λ y. tableau * y + (x * q ^ z + shapeTableau q (p .rest) rows)) (sym (pow-add q rows z))
-      ∙ ap (λ s. tableau * q ^ shapeSize s rows + shapeTableau q s rows) (sym (p .split))
-      ∙ w .whole
-      in
-      record {
-        long = omega (arith, w .at .whole .size, mul-le-mul-right n (w .at .rows));
-        fits = read-within (tableau * q ^ rows + x) (q ^ z) (shapeTableau q (p .rest) rows) (tableauValue q n k m) (one-le-pow z q positive) all;
-        next = record { shape = p .rest; at = p .next; whole = all };
-      }
+    pub reading-free : 0 < q → eqb (v / 2 ^ (n - c) % 2) 1 ≡ false → ReadColumn q n k m c rows tableau
+    unfolding shapeSize shapeTableau
+    reading-free positive t =
+        let p = walk-free v is (w .at) some t in
+        let x : ℕ = topValue q (entry n m) rows (c - 1) in
+        let z : ℕ = shapeSize (p .rest) rows in
+        let all : (tableau * q ^ rows + x) * q ^ z + shapeTableau q (p .rest) rows ≡ tableauValue q n k m
+        = sym (read-next tableau (q ^ rows) (q ^ z) x (shapeTableau q (p .rest) rows))
+        ∙ ap (λ y. tableau * y + (x * q ^ z + shapeTableau q (p .rest) rows)) (sym (pow-add q rows z))
+        ∙ ap (λ s. tableau * q ^ shapeSize s rows + shapeTableau q s rows) (sym (p .split))
+        ∙ w .whole
+        in
+        record {
+          long = omega (arith, w .at .whole .size, mul-le-mul-right n (w .at .rows));
+          fits =
+              read-within (tableau * q ^ rows + x) (q ^ z) (shapeTableau q (p .rest) rows) (tableauValue q n k m) (one-le-pow z q positive)
+              all;
+          next = record { shape = p .rest; at = p .next; whole = all };
+        }

@@ -1,5 +1,5 @@
--- The size of the diagram with a given Ferrers index, searched from the largest down: the contract of `ferrers::find_size`, and its steps; no
--- part of the meaning.
+-- The size of the diagram with a given Ferrers index, searched from the largest down: the contract of `ferrers::find_size`, and its steps;
+-- no part of the meaning.
 --   Found q n k index size rest     == the matrix with the index has `size` dots, and `rest` is its index among those of that size
 --   Searching q n k index m rest    == the matrix has at most m dots, and `rest` is its index among those
 --   searching-start                 == at the start nothing is passed
@@ -69,7 +69,8 @@ module _ {q n k index m rest : ℕ} (w : ℕ) (some : 0 < m) (counted : w ≡ bo
   searching-found h =
       let e : m ≡ suc (m - 1) = omega arith in
       subst (λ j. Found q n k index j rest) (sym e)
-      (found q n k index (m - 1) rest w (subst (λ j. w ≡ boxCount n k j * q ^ j) e counted) (subst (λ j. Searching q n k index j rest) e s) h)
+      (found q n k index (m - 1) rest w (subst (λ j. w ≡ boxCount n k j * q ^ j) e counted)
+      (subst (λ j. Searching q n k index j rest) e s) h)
 
   pub searching-next : w ≤ rest → Searching q n k index (m - 1) (rest - w)
   searching-next h =

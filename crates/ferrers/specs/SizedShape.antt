@@ -1,5 +1,5 @@
--- Shapes by the sizes of their diagrams; no part of the meaning. The index runs through the sizes from the largest down, and in each through
--- the places of the diagrams and the tableaux.
+-- Shapes by the sizes of their diagrams; no part of the meaning. The index runs through the sizes from the largest down, and in each
+-- through the places of the diagrams and the tableaux.
 --   sizedIndex q n k m s   == the index of the shape s among those of at most m dots
 --   Sized q n k m i s      == s is the shape of a reduced matrix of at most m dots, with the index i among those
 --   sized-valid            == for i in its bounds sizedShape gives such a shape

@@ -46,7 +46,8 @@ located-tableau {N} {K} {k} {c} {m} l =
     let e : K ≡ k + (K - k) = sym (add-sub-of-le (l .rows)) in
     let back : N - (N - c) ≡ c = sub-sub-self (l .columns) in
     ap (dottedFrom N m (N - c) 0) e
-    ∙ dotted-first N m (N - c) 0 k (K - k) (λ a _ h. ap (ltb (pivotColumn N m a)) back ∙ lt-ltb (pivotColumn N m a) c (located-left l a (omega arith)))
+    ∙ dotted-first N m (N - c) 0 k (K - k)
+    (λ a _ h. ap (ltb (pivotColumn N m a)) back ∙ lt-ltb (pivotColumn N m a) c (located-left l a (omega arith)))
     (λ a h b. ap (ltb (pivotColumn N m a)) back ∙ le-ltb (pivotColumn N m a) c (l .right a (omega arith) (omega arith)))
     ∙ ap (λ x. tabulate (λ i. entry N m i x) 0 k) back
 

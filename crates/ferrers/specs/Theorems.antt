@@ -1,5 +1,5 @@
--- The Ferrers numbering lists the reduced matrices: for any q, n and k, the indexes below the Gaussian coefficient and the reduced matrices of k
--- rows and n columns are one to one, in the numbering's order. Carried by the peeled shape, whose rank is formula (14).
+-- The Ferrers numbering lists the reduced matrices: for any q, n and k, the indexes below the Gaussian coefficient and the reduced matrices
+-- of k rows and n columns are one to one, in the numbering's order. Carried by the peeled shape, whose rank is formula (14).
 --   index-below-count  == a reduced matrix has an index below the count of spaces
 --   drawn-reduced      == the matrix that is drawn for an index below the count is reduced
 --   index-of-drawn     == its index is the one it was drawn for
@@ -27,7 +27,8 @@ use Rattle.matrix.specs.Peel.{peeled-of}
 use Rattle.matrix.specs.ShapeLaws.{peeled-valid}
 use Rattle.matrix.specs.Shape.{cell, flatten}
 use Rattle.matrix.specs.Shaped.{shape-matrix, shape-peeled, shape-reduced}
-use Rattle.ferrers.specs.BeforeLaws.{diagram-length, same-size, index-same, index-larger, index-fuller, index-smaller, before-compared}
+use Rattle.ferrers.specs.BeforeLaws.{diagram-length, same-size, index-same, index-larger, index-fuller, index-smaller}
+use Rattle.ferrers.specs.BeforeLaws.{before-compared}
 use Rattle.ferrers.specs.Ferrers.{diagram, size, tableauValue, ferrersIndex, ferrersBefore, larger, fuller, smaller}
 use Rattle.ferrers.specs.Formula.{ferrers-formula}
 use Rattle.ferrers.specs.Ranked.{ferrersShape, drawnFerrers}

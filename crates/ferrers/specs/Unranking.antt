@@ -1,9 +1,9 @@
--- The matrix of an identifying vector and a tableau, written column by column from the left: the contract of `ferrers::draw`, and its steps; no
--- part of the meaning.
+-- The matrix of an identifying vector and a tableau, written column by column from the left: the contract of `ferrers::draw`, and its
+-- steps; no part of the meaning.
 --   Shaped q n k v tableau S == S is the shape of a reduced matrix with this identifying vector and this tableau
 --   diagram-shaped           == so is the shape of a diagram and a tableau, with the diagram's identifying vector
---   Filling q n k S m c rows entries s == the first c columns of m are those of the matrix with the shape S, with `rows` pivots, and the others
---                              are 0; `entries` holds the tableau's digits but for those of s, the shape of the first c columns
+--   Filling q n k S m c rows entries s == the first c columns of m are those of the matrix with the shape S, with `rows` pivots, and the
+--                              others are 0; `entries` holds the tableau's digits but for those of s, the shape of the first c columns
 --   Unranking q n k S m c rows entries == the same for S without its n - c last columns
 --   unranking-start, -end    == nothing is written yet, and all is
 --   write-asked, pivot-asked == the next column can be written
@@ -131,7 +131,8 @@ module _ {q n k c rows entries : ℕ} {S : Shape} {m m′ : List ℕ} (inside : 
       let t = shapeTableau q s rows in
       let more : a .higher * (q ^ rows * Q) + (x * Q + t) ≡ (a .higher * q ^ rows + x) * Q + t = omega arith in
       let all : T ≡ (a .higher * q ^ rows + x) * Q + t = a .tableau ∙ ap (λ p. a .higher * p + (x * Q + t)) (pow-add q rows z) ∙ more in
-      let now : entries ≡ a .higher * q ^ rows + x = d .entries-are ∙ ap (λ y. y / Q) all ∙ digits-div (a .higher * q ^ rows + x) (tableau-below v) in
+      let now : entries ≡ a .higher * q ^ rows + x =
+      d .entries-are ∙ ap (λ y. y / Q) all ∙ digits-div (a .higher * q ^ rows + x) (tableau-below v) in
       let last : (i : ℕ) → cell q (free x s) rows (suc c) i c ≡ digitAt q rows x i = λ i. rw (eq-eqb c c refl) in
       record {
         sized = w .sized ∙ d .sized;

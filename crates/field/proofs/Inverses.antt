@@ -84,4 +84,6 @@ inverse-at q a =
         ∙ sym (in-field q (invert q a) t)
 
     no-size : isFieldSize q ≡ false → inverseBelow (getD fieldSizes (position q fieldSizes) 0) (orZero q (a % q)) ≡ orZero q (invert q a)
-    no-size n = ap₂ (λ p x. inverseBelow (getD fieldSizes p 0) x) (position-none q fieldSizes n) (outside q (a % q) n) ∙ sym (outside q (invert q a) n)
+    no-size n =
+        ap₂ (λ p x. inverseBelow (getD fieldSizes p 0) x) (position-none q fieldSizes n) (outside q (a % q) n)
+        ∙ sym (outside q (invert q a) n)

@@ -17,4 +17,5 @@ size-small = forEach (λ q. (1 < q) × (q ≤ 8)) (λ q. always (λ a b. (a, le-
 
 pub last-size : (q : ℕ) → T (isFieldSize q) → (q ≡ 2 → ⊥) → (q ≡ 3 → ⊥) → (q ≡ 5 → ⊥) → q ≡ 7
 unfolding isFieldSize
-last-size q t two three five = member-last q 7 (member-next q 5 (7 ∷ []) (member-next q 3 (5 ∷ 7 ∷ []) (member-next q 2 (3 ∷ 5 ∷ 7 ∷ []) t two) three) five)
+last-size q t two three five =
+    member-last q 7 (member-next q 5 (7 ∷ []) (member-next q 3 (5 ∷ 7 ∷ []) (member-next q 2 (3 ∷ 5 ∷ 7 ∷ []) t two) three) five)

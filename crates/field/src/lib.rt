@@ -1,12 +1,13 @@
-// Arithmetic of the field with q elements, on bytes. Every function answers for every q and every byte: where q is no field
-// size the answer is 0, and a byte of q or more counts as its remainder by q.
+// Arithmetic of the field with q elements, on bytes. `negate` and `invert` answer for every q and every byte: where q is no field size the
+// answer is 0, and a byte of q or more counts as its remainder by q.
 ghost use mathlib.Core.Path.{_≡_};
 ghost use Prim.Native.Nat.{_+_, _/_, _%_, _<_};
 ghost use lib.Dec.{T};
 ghost use lib.ListN.{getD};
 ghost use Rattle.basics.specs.Member.{position};
 ghost use Rattle.field.specs.Inverses.{inverses};
-ghost use Rattle.field.specs.Field.{fieldSizes, isFieldSize, orZero, add as sum, multiply as product, negate as negative, invert as inverse};
+ghost use Rattle.field.specs.Field.{fieldSizes, isFieldSize, orZero};
+ghost use Rattle.field.specs.Field.{add as sum, multiply as product, negate as negative, invert as inverse};
 
 // The place of q's part in a table with a part for each field size; 4 where q is none.
 pub fn place(q: u64) -> usize
@@ -39,18 +40,6 @@ fn remainder(q: u64, x: u16) -> u8
     }
 }
 
-pub fn add(q: u64, a: u8, b: u8) -> u8
-    ensures { λ r. ⌜ r ≡ orZero q (sum q a b) ⌝ }
-{
-    remainder(q, a as u16 + b as u16)
-}
-
-pub fn multiply(q: u64, a: u8, b: u8) -> u8
-    ensures { λ r. ⌜ r ≡ orZero q (product q a b) ⌝ }
-{
-    remainder(q, a as u16 * b as u16)
-}
-
 // 256 divided by the field size q and rounded up.
 fn reciprocal(q: u64) -> u16
     requires { ⌜ T (isFieldSize q) ⌝ }
@@ -64,8 +53,8 @@ fn reciprocal(q: u64) -> u16
     }
 }
 
-// a + c·b of elements, in one step. The sum is at most q·q - q, and so far down the reciprocal gives the quotient by q. The compiler makes of
-// this one loop for q = 2, where the last bit is the remainder, and one for every other q.
+// a + c·b of elements, in one step: no sum and no product is made apart from it. The sum is at most q·q - q, and so far down the reciprocal
+// gives the quotient by q. The compiler makes of this one loop for q = 2, where the last bit is the remainder, and one for every other q.
 pub fn add_product(q: u64, a: u8, c: u8, b: u8) -> u8
     requires { ⌜ T (isFieldSize q) × (a < q) × (c < q) × (b < q) ⌝ }
     ensures { λ r. ⌜ r ≡ sum q a (product q c b) ⌝ }

@@ -22,7 +22,7 @@ use Rattle.basics.specs.All.{allBelow, allBelow-at, allBelow-true}
 use Rattle.basics.specs.Test.{and-left, and-right}
 use Rattle.matrix.specs.Matrix.{entry, pivot, rowReduced, isReduced}
 use Rattle.matrix.specs.Lead.{lead-before}
-use Rattle.matrix.specs.Decided.{Clauses, clauses-of, clauses-true, or-other, or-true, and-true, pivotOf}
+use Rattle.matrix.specs.Decided.{Begun, Clauses, rowTest, test-of, test-true, clauses-of, clauses-true, or-true, pivotOf}
 
 unfoldable pub rowsAbove : ℕ → List ℕ → ℕ → ℕ → Bool
 rowsAbove n m i j = allBelow i (λ a. eqb (entry n m a j) 0)
@@ -54,36 +54,29 @@ module _ (n k : ℕ) (m : List ℕ) (i p : ℕ) where
   pub above-rest : p < n → entry n m i p ≡ 1 → p < pivotOf n k m (suc i) → rowAbove n k m i p ≡ rowsAbove n m i p
   unfolding rowAbove
   above-rest h e g =
-      rw (lt-ltb p n h, eq-eqb (entry n m i p) 1 e, or-true (leb k (suc i)) (ltb p (pivot n m (suc i))) (λ f. lt-ltb p (pivot n m (suc i)) (rw (lt-leb k (suc i) (leb-false k (suc i) f)) at g)))
+      rw (
+        lt-ltb p n h,
+        eq-eqb (entry n m i p) 1 e,
+        or-true (leb k (suc i)) (ltb p (pivot n m (suc i)))
+            (λ f. lt-ltb p (pivot n m (suc i)) (rw (lt-leb k (suc i) (leb-false k (suc i) f)) at g)),
+      )
 
   -- the clauses that are left, as statements
   record Above : Type 0 where
-    no-zero-row : p < n
-    pivot-one : entry n m i p ≡ 1
-    pivots-rise : suc i < k → p < pivot n m (suc i)
+    begun : Begun n k m i p
     zero-above : (a : ℕ) → a < i → entry n m a p ≡ 0
 
   above-of : T (rowAbove n k m i p) → Above
   unfolding rowAbove rowsAbove
   above-of t =
-      let t₁ = and-right (ltb p n) _ t in
-      let t₂ = and-right (eqb (entry n m i p) 1) _ t₁ in
+      let tested = test-of n k m i p (rowsAbove n m i p) t in
       record {
-        no-zero-row = ltb→lt p n (and-left (ltb p n) _ t);
-        pivot-one = eqb→eq (entry n m i p) 1 (and-left (eqb (entry n m i p) 1) _ t₁);
-        pivots-rise =
-            λ h.
-            ltb→lt p (pivot n m (suc i))
-            (or-other (leb k (suc i)) _ (and-left (leb k (suc i) || ltb p (pivot n m (suc i))) _ t₂)
-            (λ l. let g = leb→le k (suc i) l in omega arith));
-        zero-above =
-            λ a h.
-            eqb→eq (entry n m a p) 0
-            (allBelow-at i (λ a. eqb (entry n m a p) 0) (and-right (leb k (suc i) || ltb p (pivot n m (suc i))) _ t₂) a h);
+        begun = tested .0;
+        zero-above = λ a h. eqb→eq (entry n m a p) 0 (allBelow-at i (λ a. eqb (entry n m a p) 0) (tested .1) a h);
       }
 
   pub above-inside : rowAbove n k m i p ≡ true → p < n
-  above-inside e = above-of (holds _ e) .no-zero-row
+  above-inside e = above-of (holds _ e) .begun .no-zero-row
 
   pub above-rising : rowAbove n k m i p ≡ true → p < pivotOf n k m (suc i)
   above-rising e = ⊎-elim last before (le-or-lt k (suc i))
@@ -92,17 +85,14 @@ module _ (n k : ℕ) (m : List ℕ) (i p : ℕ) where
       last l = rw (le-leb k (suc i) l) (above-inside e)
 
       before : suc i < k → p < pivotOf n k m (suc i)
-      before l = rw (lt-leb k (suc i) l) (above-of (holds _ e) .pivots-rise l)
+      before l = rw (lt-leb k (suc i) l) (above-of (holds _ e) .begun .pivots-rise l)
 
   above-true : i < k → Clauses n k m i p → rowAbove n k m i p ≡ true
   unfolding rowAbove rowsAbove
   above-true inside c =
-      and-true _ _ (lt-ltb p n (c .no-zero-row))
-      (and-true _ _ (eq-eqb (entry n m i p) 1 (c .pivot-one))
-      (and-true _ _
-      (or-true (leb k (suc i)) _ (λ e. lt-ltb p (pivot n m (suc i)) (c .pivots-rise (leb-false k (suc i) e))))
+      test-true n k m i p (c .begun)
       (allBelow-true i (λ a. eqb (entry n m a p) 0)
-      (λ a h. eq-eqb (entry n m a p) 0 (c .pivot-alone a (omega arith) (λ e. omega arith))))))
+      (λ a h. eq-eqb (entry n m a p) 0 (c .pivot-alone a (omega arith) (λ e. omega arith))))
 
 same-test : (a b : Bool) → (T a → b ≡ true) → (T b → a ≡ true) → a ≡ b
 same-test true b f g = sym (f tt)
@@ -110,7 +100,7 @@ same-test false true f g = g tt
 same-test false false f g = refl
 
 module _ (n k : ℕ) (m : List ℕ) where
-  rising-far : ((i : ℕ) → suc i < k → pivot n m i < pivot n m (suc i)) → (i a : ℕ) → i < a → a < k → pivot n m i < pivot n m a
+  pub rising-far : ((i : ℕ) → suc i < k → pivot n m i < pivot n m (suc i)) → (i a : ℕ) → i < a → a < k → pivot n m i < pivot n m a
   rising-far rise i zero h g = absurd (not-suc-le-zero h)
   rising-far rise i (suc a) h g = cases (eq-or-lt-of-le (le-of-suc-le-suc h)) (rising-far rise i a)
     where
@@ -126,17 +116,10 @@ module _ (n k : ℕ) (m : List ℕ) where
         cases (inl l) = above i h .zero-above a l
         cases (inr (inl e)) = absurd (ne e)
         cases (inr (inr l)) =
-            lead-before (entry n m a) n (pivot n m i) (rising-far (λ i h. above i (omega arith) .pivots-rise h) i a l g)
+            lead-before (entry n m a) n (pivot n m i) (rising-far (λ i h. above i (omega arith) .begun .pivots-rise h) i a l g)
 
     clauses-above : (i : ℕ) → i < k → Clauses n k m i (pivot n m i)
-    clauses-above i h =
-        let c = above i h in
-        record {
-          no-zero-row = c .no-zero-row;
-          pivot-one = c .pivot-one;
-          pivots-rise = c .pivots-rise;
-          pivot-alone = whole-column i h;
-        }
+    clauses-above i h = record { begun = above i h .begun; pivot-alone = whole-column i h }
 
   pub reduced-above : isReduced n k m ≡ allBelow k (λ i. rowAbove n k m i (pivot n m i))
   unfolding isReduced
@@ -144,7 +127,8 @@ module _ (n k : ℕ) (m : List ℕ) where
       same-test _ _
       (λ t.
       allBelow-true k _
-      (λ i h. above-true n k m i (pivot n m i) h (clauses-of n k m i (pivot n m i) (allBelow-at k (λ i. rowReduced n k m i (pivot n m i)) t i h))))
+      (λ i h. above-true n k m i (pivot n m i) h
+      (clauses-of n k m i (pivot n m i) (allBelow-at k (λ i. rowReduced n k m i (pivot n m i)) t i h))))
       (λ t.
       allBelow-true k _
       (λ i h.

@@ -26,7 +26,8 @@ pub record Drawing (q n k : ℕ) (S : Shape) (m : List ℕ) (c rows : ℕ) (s : 
 
 zero-at : (size place : ℕ) → _≡_ {A = ℕ} (getD (replicate size 0) place 0) 0
 zero-at size place =
-    ⊎-elim (λ h. List·getD-eq-default (replicate size 0) 0 (rw length-replicate h)) (λ h. getD-replicate size place 0 0 h) (le-or-lt size place)
+    ⊎-elim (λ h. List·getD-eq-default (replicate size 0) 0 (rw length-replicate h)) (λ h. getD-replicate size place 0 0 h)
+    (le-or-lt size place)
 
 pub drawing-start : (q n k : ℕ) (S : Shape) (m : List ℕ) → m ≡ replicate (k * n) 0 → Drawing q n k S m n k S
 drawing-start q n k S m e =
@@ -56,7 +57,8 @@ module _ (q n k c : ℕ) (S : Shape) (m m′ : List ℕ) (inside : c < n) where
         done =
             λ i j hi hj l.
             ⊎-elim
-            (λ (e : c ≡ j). ap (entry n m′ i) (sym e) ∙ w .column i hi ∙ sym (here i) ∙ sym (d .left i c (omega arith)) ∙ ap (cell q S k n i) e)
+            (λ (e : c ≡ j). ap (entry n m′ i) (sym e) ∙ w .column i hi ∙ sym (here i) ∙ sym (d .left i c (omega arith))
+            ∙ ap (cell q S k n i) e)
             (λ (g : c < j). w .others i j hi l (λ e. absurd (omega arith)) ∙ d .done i j hi g l)
             (eq-or-lt-of-le hj);
         left = λ i j l. d .left i j (omega arith) ∙ before i j (λ e. absurd (omega arith));

@@ -8,7 +8,7 @@
 use mathlib.Core.Path.{_≡_, refl, ap, ap₂, _∙_, sym}
 use mathlib.Core.Bool.{true, false}
 use mathlib.Core.List.{List, [], _∷_}
-use Prim.Native.Nat.{ℕ, zero, suc, _+_, _*_, _-_, _^_, _%_, _<_, _≤_}
+use Prim.Native.Nat.{ℕ, zero, suc, _+_, _*_, _-_, _^_, _<_, _≤_}
 use native.Mathlib.Nat.{pow-succ'}
 use native.Mathlib.Omega.{arith}
 use lib.ListN.{length, getD}
@@ -21,7 +21,6 @@ use Rattle.matrix.specs.Decided.{pivotOf, pivot-within, entries-below-tr
 use Rattle.matrix.specs.Above.{rowAbove, above-inside, above-rising, reduced-above}
 use Rattle.matrix.specs.Vector.{identifying-rows}
 use Rattle.matrix.specs.VectorRows.{rowPower}
-use Rattle.matrix.specs.Bits.{shifted-one}
 
 pub record Gathered (n k : ℕ) (m : List ℕ) (v p i : ℕ) : Type 0 where
   pub within : i ≤ k
@@ -60,8 +59,8 @@ gathered-start n k m p e =
 
 pub record Gathering (n k : ℕ) (m : List ℕ) (v p i : ℕ) : Type 0 where
   pub inside : p < n
-  pub fits : v + 1 * 2 ^ (n - 1 - p) % 65536 < 65536
-  pub next : (p₁ : ℕ) → p₁ ≡ pivotOf n k m (suc i) → Gathered n k m (v + 1 * 2 ^ (n - 1 - p) % 65536) p₁ (suc i)
+  pub fits : v + 2 ^ (n - 1 - p) < 2 ^ 16
+  pub next : (v₁ p₁ : ℕ) → v₁ ≡ v + 2 ^ (n - 1 - p) → p₁ ≡ pivotOf n k m (suc i) → Gathered n k m v₁ p₁ (suc i)
 
 module _ {n k : ℕ} {m : List ℕ} {v p i : ℕ} (g : Gathered n k m v p i) where
   -- the next row's pivot
@@ -78,19 +77,16 @@ module _ {n k : ℕ} {m : List ℕ} {v p i : ℕ} (g : Gathered n k m v p i) whe
         let inside = above-inside n k m i p e in
         let s : n - p ≡ suc (n - 1 - p) = omega arith in rw (s, pow-succ' 2 (n - 1 - p))
 
-    shifted : 1 * 2 ^ (n - 1 - p) % 65536 ≡ 2 ^ (n - 1 - p)
-    shifted = let inside = above-inside n k m i p e in shifted-one (n - 1 - p) (omega arith)
-
-    room-left : (p₁ : ℕ) → p₁ ≡ pivotOf n k m (suc i) → v + 1 * 2 ^ (n - 1 - p) % 65536 + 2 ^ (n - p₁) ≤ 2 ^ n
+    room-left : (p₁ : ℕ) → p₁ ≡ pivotOf n k m (suc i) → v + 2 ^ (n - 1 - p) + 2 ^ (n - p₁) ≤ 2 ^ n
     room-left p₁ f =
         let rising : p < p₁ = rw f (above-rising n k m i p e) in
         let inside = above-inside n k m i p e in
         let less : 2 ^ (n - p₁) ≤ 2 ^ (n - 1 - p) = pow-mono (omega arith) in
-        omega (arith, shifted, power-halved, g .room)
+        omega (arith, power-halved, g .room)
 
-    summed : v + 1 * 2 ^ (n - 1 - p) % 65536 ≡ sum (suc i) (rowPower n m)
+    summed : v + 2 ^ (n - 1 - p) ≡ sum (suc i) (rowPower n m)
     unfolding sum
-    summed = ap₂ _+_ (g .added) (shifted ∙ ap (λ x. 2 ^ (n - 1 - x)) (next-pivot h))
+    summed = ap₂ _+_ (g .added) (ap (λ x. 2 ^ (n - 1 - x)) (next-pivot h))
 
     pub gathered-step : Gathering n k m v p i
     gathered-step =
@@ -98,15 +94,15 @@ module _ {n k : ℕ} {m : List ℕ} {v p i : ℕ} (g : Gathered n k m v p i) whe
         let some : 0 < 2 ^ (n - 1 - p) = pow-pos (n - 1 - p) in
         record {
           inside = above-inside n k m i p e;
-          fits = omega (arith, shifted, power-halved, g .room);
+          fits = omega (arith, power-halved, g .room);
           next =
-              λ p₁ f.
+              λ v₁ p₁ e₁ f.
               record {
                 within = omega arith;
                 passed = allBelow-more i _ (g .passed) (ap (rowAbove n k m i) (sym (next-pivot h)) ∙ e);
                 column = f;
-                added = summed;
-                room = room-left p₁ f;
+                added = e₁ ∙ summed;
+                room = omega (arith, room-left p₁ f);
               };
         }
 

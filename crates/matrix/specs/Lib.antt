@@ -20,6 +20,7 @@ pub mod Values
 pub mod Vector
 pub mod VectorRows
 pub mod Bits
+pub mod Pivots
 pub mod Gathered
 pub mod BitSum
 pub mod Walk

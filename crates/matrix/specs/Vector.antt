@@ -35,7 +35,8 @@ power c p h = let e : suc c - 1 - p ≡ suc (c - 1 - p) = omega arith in rw (e, 
 rows-doubled : {q k c : ℕ} {A : ℕ → ℕ → ℕ} {s : Shape} (N : ℕ) → c ≤ N → Peeled q A k c s
     → sum k (λ a. 2 ^ (suc c - 1 - lead (A a) N)) ≡ 2 * sum k (λ a. 2 ^ (c - 1 - lead (A a) N))
 rows-doubled {k} {c} {A} N b p =
-    sum-same k (λ a. 2 ^ (suc c - 1 - lead (A a) N)) (λ a. 2 * 2 ^ (c - 1 - lead (A a) N)) (λ a h. power c (lead (A a) N) (peeled-left b p a h))
+    sum-same k (λ a. 2 ^ (suc c - 1 - lead (A a) N)) (λ a. 2 * 2 ^ (c - 1 - lead (A a) N))
+    (λ a h. power c (lead (A a) N) (peeled-left b p a h))
     ∙ sum-times k 2 (λ a. 2 ^ (c - 1 - lead (A a) N))
 
 pub vector-rows : {q k c : ℕ} {A : ℕ → ℕ → ℕ} {s : Shape} (N : ℕ) → c ≤ N → Peeled q A k c s

@@ -6,11 +6,10 @@
 -- Assumes nothing.
 use mathlib.Core.Path.{_≡_, ap, _∙_, sym}
 use mathlib.Core.List.{List}
-use Prim.Native.Nat.{ℕ, suc, _+_, _*_, _-_, _^_, _%_, _<_, _≤_}
-use native.Mathlib.Nat.{add-zero, zero-add, one-mul}
+use Prim.Native.Nat.{ℕ, suc, _+_, _-_, _^_, _<_, _≤_}
+use native.Mathlib.Nat.{add-zero, zero-add}
 use native.Mathlib.Omega.{arith}
-use lib.Dec.{lit<}
-use lib.Pow.{pow-mono, shl-exact}
+use lib.Pow.{pow-mono}
 use Rattle.basics.specs.Sum.{sum}
 use Rattle.matrix.specs.Matrix.{pivot, identifying, Reduced}
 use Rattle.matrix.specs.Vector.{identifying-rows, identifying-below}
@@ -30,28 +29,24 @@ pub adding-end : {n k v i : ℕ} {m : List ℕ} → i ≡ 0 → Adding n k m v i
 unfolding sum
 adding-end {n} {v} {m} e a = sym (add-zero v) ∙ ap (λ j. v + sum j (rowPower n m)) (sym e) ∙ a .whole
 
--- the power of a pivot in column p, as a shift of 16 bits makes it
-shifted : (n p : ℕ) → n ≤ 16 → p < n → 1 * 2 ^ (n - 1 - p) % 65536 ≡ 2 ^ (n - 1 - p)
-shifted n p h b = shl-exact {a = 1} 1 (n - 1 - p) 16 (lit< tt) (omega arith) ∙ one-mul (2 ^ (n - 1 - p))
-
 pub record Added (n k : ℕ) (m : List ℕ) (v i p : ℕ) : Type 0 where
   pub inside : p < n
-  pub fits : v + 1 * 2 ^ (n - 1 - p) % 65536 < 65536
-  pub next : Adding n k m (v + 1 * 2 ^ (n - 1 - p) % 65536) (i - 1)
+  pub fits : v + 2 ^ (n - 1 - p) < 2 ^ 16
+  pub next : (v₁ : ℕ) → v₁ ≡ v + 2 ^ (n - 1 - p) → Adding n k m v₁ (i - 1)
 
 module _ {q n k : ℕ} {m : List ℕ} (v i p : ℕ) (narrow : n ≤ 16) (r : Reduced q n k m) (left : 0 < i) (found : p ≡ pivot n m (i - 1))
     (a : Adding n k m v i) where
   inside-row : p < n
   inside-row = rw found (r .no-zero-row (i - 1) (omega arith))
 
-  stepped : v + 1 * 2 ^ (n - 1 - p) % 65536 + sum (i - 1) (rowPower n m) ≡ identifying n k m
+  stepped : v + 2 ^ (n - 1 - p) + sum (i - 1) (rowPower n m) ≡ identifying n k m
   unfolding sum
   stepped =
       let e : i ≡ suc (i - 1) = omega arith in
       let last : 2 ^ (n - 1 - p) ≡ rowPower n m (i - 1) = ap (λ x. 2 ^ (n - 1 - x)) found in
       let all : v + (sum (i - 1) (rowPower n m) + rowPower n m (i - 1)) ≡ identifying n k m =
       ap (λ x. v + sum x (rowPower n m)) (sym e) ∙ a .whole in
-      omega (arith, shifted n p narrow inside-row)
+      omega (arith, last, all)
 
   pub adding-step : Added n k m v i p
   adding-step =
@@ -59,5 +54,5 @@ module _ {q n k : ℕ} {m : List ℕ} (v i p : ℕ) (narrow : n ≤ 16) (r : Red
       record {
         inside = inside-row;
         fits = omega (arith, stepped, identifying-below r);
-        next = record { within = omega (arith, a .within); whole = stepped };
+        next = λ v₁ e. record { within = omega (arith, a .within); whole = ap (λ x. x + sum (i - 1) (rowPower n m)) e ∙ stepped };
       }

@@ -58,9 +58,11 @@ written-step n k c a next f m m′ x hc is ha fits e w =
       column =
           λ i from h.
           ⊎-elim
-          (λ (p : a ≡ i). ap (λ b. getD (set m′ (a * n + c) x) (b * n + c) 0) (sym p) ∙ getD-set-same m′ (a * n + c) x 0 room ∙ sym e ∙ ap f p)
+          (λ (p : a ≡ i). ap (λ b. getD (set m′ (a * n + c) x) (b * n + c) 0) (sym p) ∙ getD-set-same m′ (a * n + c) x 0 room ∙ sym e
+          ∙ ap f p)
           (λ (l : a < i).
-          getD-set-other m′ (a * n + c) (i * n + c) x 0 (λ p. let q = flat-row i a n c c hc hc p in omega arith) ∙ w .column i (omega arith) h)
+          getD-set-other m′ (a * n + c) (i * n + c) x 0 (λ p. let q = flat-row i a n c c hc hc p in omega arith)
+          ∙ w .column i (omega arith) h)
           (eq-or-lt-of-le from);
       others =
           λ i j hi hj ne.
@@ -76,9 +78,11 @@ written-unit n k c row m hc hr fits blank =
       column =
           λ i h.
           ⊎-elim
-          (λ (e : i ≡ row). ap (λ b. getD (set m (row * n + c) 1) (b * n + c) 0) e ∙ getD-set-same m (row * n + c) 1 0 room ∙ sym (rw (eq-eqb i row e)))
+          (λ (e : i ≡ row). ap (λ b. getD (set m (row * n + c) 1) (b * n + c) 0) e ∙ getD-set-same m (row * n + c) 1 0 room
+          ∙ sym (rw (eq-eqb i row e)))
           (λ (ne : i ≡ row → ⊥).
-          getD-set-other m (row * n + c) (i * n + c) 1 0 (λ p. ne (flat-row i row n c c hc hc p)) ∙ blank i (omega arith) h ∙ sym (rw (ne-eqb i row ne)))
+          getD-set-other m (row * n + c) (i * n + c) 1 0 (λ p. ne (flat-row i row n c c hc hc p)) ∙ blank i (omega arith) h
+          ∙ sym (rw (ne-eqb i row ne)))
           (same-or-not i row);
       others = λ i j hi hj ne. getD-set-other m (row * n + c) (i * n + j) 1 0 (λ p. ne (flat-column i row n j c hj hc p));
     }
@@ -95,7 +99,9 @@ module _ (q rows x a i rest : ℕ) (next : suc a ≡ i) (left : rest ≡ x / q ^
       let after : rows - a ≡ suc (rows - i) = omega arith in
       record {
         digit-is = rw (lt-ltb a rows h, place, left);
-        rest-is = ap (λ r. r / q) left ∙ div-div-eq-div-mul x (q ^ (rows - i)) q ∙ ap (λ y. x / y) (sym (pow-suc q (rows - i)) ∙ ap (_^_ q) (sym after));
+        rest-is =
+            ap (λ r. r / q) left ∙ div-div-eq-div-mul x (q ^ (rows - i)) q
+            ∙ ap (λ y. x / y) (sym (pow-suc q (rows - i)) ∙ ap (_^_ q) (sym after));
       }
 
 pub rest-whole : (q rows x : ℕ) → x ≡ x / q ^ (rows - rows)

@@ -1,6 +1,8 @@
 // Reduced matrices as bytes, row by row from the top. The functions ask that the matrix has its k×n bytes; the calls above test it.
 ghost use mathlib.Core.Path.{_≡_};
-ghost use Prim.Native.Nat.{ℕ, suc, _+_, _*_, _^_, _/_, _%_, _≤_, _<_};
+ghost use mathlib.Core.List.{List};
+ghost use Prim.Native.Nat.{ℕ, suc, _+_, _*_, _-_, _^_, _/_, _%_, _≤_, _<_};
+ghost use lib.Count.{trailingZeros};
 ghost use lib.Dec.{eqb};
 ghost use lib.ListN.{length, getD, replicate};
 ghost use Rattle.basics.specs.Choice.{pick};
@@ -87,6 +89,14 @@ fn pivot_of(m: &[u8], n: usize, k: usize, i: usize) -> usize
     lead(m, i * n, n)
 }
 
+// The identifying vector v with one more pivot, in column p from the left: column j from the right has the value 2^(j-1).
+fn add_pivot(v: u16, n: usize, p: usize) -> u16
+    requires { ⌜ (n ≤ 16) × (p < n) × (v + 2 ^ (n - 1 - p) < 2 ^ 16) ⌝ }
+    ensures { λ r. ⌜ r ≡ v + 2 ^ (n - 1 - p) ⌝ }
+{
+    v + (1u16 << (n - 1 - p))
+}
+
 // Whether a matrix is reduced, and its identifying vector; 0 where it is not.
 pub struct Found {
     pub reduced: bool,
@@ -111,7 +121,7 @@ pub fn reduced_vector(m: &[u8], n: usize, k: usize) -> Found
                 vector: 0,
             };
         }
-        vector += 1u16 << (n - 1 - p);
+        vector = add_pivot(vector, n, p);
         p = next;
         i += 1;
     }
@@ -208,35 +218,44 @@ pub fn append_digits(x: u64, m: &[u8], q: u64, n: usize, c: usize, rows: usize) 
     value
 }
 
-// The identifying vector of a reduced matrix: column j from the right has the value 2^(j-1).
-pub fn identifying(m: &[u8], n: usize, k: usize) -> u16
-    requires { ⌜ (n ≤ 16) × ((q : ℕ) × Reduced q n k (now m)) ⌝ }
-    ensures { λ r. ⌜ r ≡ vectorOf n k (now (m .entry)) ⌝ }
-{
-    let mut v: u16 = 0;
-    let mut i = k;
-    while i > 0 {
-        let r = i - 1;
-        let j = n - 1 - lead(m, r * n, n);
-        v += 1u16 << j;
-        i = r;
-    }
-    v
-}
-
 // The identifying vector of a reduced matrix whose pivots, from the top row down, are in the given columns.
 pub fn vector_of(m: &[u8], pivots: &[u8], n: usize, k: usize) -> u16
-    requires { ⌜ (n ≤ 16) × ((q : ℕ) × Reduced q n k (now m)) × (k ≤ length (now pivots)) × ((i : ℕ) → i < k → getD (now pivots) i 0 ≡ pivot n (now m) i) ⌝ }
+    requires { ⌜ (n ≤ 16) × ((q : ℕ) × Reduced q n k (now m)) × (k ≤ length (now pivots))
+        × ((i : ℕ) → i < k → getD (now pivots) i 0 ≡ pivot n (now m) i) ⌝ }
     ensures { λ r. ⌜ r ≡ vectorOf n k (now (m .entry)) ⌝ }
 {
-    let mut v: u16 = 0;
+    let mut vector: u16 = 0;
+    let mut row = k;
+    while row > 0 {
+        row -= 1;
+        vector = add_pivot(vector, n, pivots[row] as usize);
+    }
+    vector
+}
+
+// The column, from the right and from 0, of the next pivot of an identifying vector whose pivots are taken from the right: the lowest set
+// bit.
+pub fn next_pivot(v: u16) -> usize
+    ensures { λ r. ⌜ r ≡ trailingZeros 16 v ⌝ }
+{
+    u16::trailing_zeros(v) as usize
+}
+
+// Writes the columns of a reduced matrix's pivots, from the top row down, by its identifying vector: the lowest set bit is the pivot of the
+// last row, and is then cleared.
+pub fn pivot_columns(v: u16, n: usize, k: usize, pivots: &mut [u8])
+    requires { ⌜ (n ≤ 16) × (k ≤ length (now pivots)) × ((q : ℕ) × ((m : List ℕ) × (Reduced q n k m × (v ≡ vectorOf n k m)))) ⌝ }
+    ensures { λ _. ⌜ ((q : ℕ) (m : List ℕ) → Reduced q n k m → v ≡ vectorOf n k m
+        → (i : ℕ) → i < k → getD (now (pivots .exit)) i 0 ≡ pivot n m i) ⌝ }
+{
+    let mut rest = v;
     let mut i = k;
     while i > 0 {
         i -= 1;
-        let j = n - 1 - pivots[i] as usize;
-        v += 1u16 << j;
+        let j = next_pivot(rest);
+        pivots[i] = (n - 1 - j) as u8;
+        rest -= 1u16 << j;
     }
-    v
 }
 
 // Whether bit j of v is 1.

@@ -176,9 +176,9 @@ impl Receiver {
         Tested { refusal: 0, vector }
     }
 
-    // The row taken in; every test has been made.
-    fn taken_in(self, row: &[u8]) -> Taken
-        requires { ⌜ TakeAccepted self (now row) ⌝ }
+    // The row taken in; every test has been made, and found the receiver's identifying vector.
+    fn taken_in(self, row: &[u8], vector: u16) -> Taken
+        requires { ⌜ TakeAccepted self (now row) × (vector ≡ identifying (self .n) (self .dimension) (used self)) ⌝ }
         ensures { λ r. ⌜ r ≡ takenIn self (now (row .entry)) ⌝ }
     {
         let width = self.n as usize;
@@ -186,7 +186,7 @@ impl Receiver {
         let before = self.dimension as usize;
         let mut entries = self.entries;
         let mut pivots = [0u8; 16];
-        reduction::find_leads(width, before, &entries[..size], &mut pivots);
+        matrix::pivot_columns(vector, width, before, &mut pivots);
         let dimension = reduction::insert(
             self.q,
             width,
@@ -228,7 +228,7 @@ impl Receiver {
                 answer: TakeAnswer::Refused(tested.refusal),
             };
         }
-        self.taken_in(row)
+        self.taken_in(row, tested.vector)
     }
 
     // Close: the index, in the numbering t, of the space of all rows taken. Refuses 14, 10, 8, 9, the last two with the dimension. The

@@ -37,7 +37,8 @@ module _ (n to : ℕ) (w m : List ℕ) where
       entered-to = over-read n w (part n to m) lw old-length to (take to m) (drop (to + n) m) front j l
 
       pub entered-apart : (from : ℕ) → Apart n from to → getD (entered n to w m j) (from + j) 0 ≡ getD (part n from m) j 0
-      entered-apart from = put-apart n from to m (over j w (part n to m)) (over-length n w (part n to m) lw old-length j (omega arith)) h j l
+      entered-apart from =
+          put-apart n from to m (over j w (part n to m)) (over-length n w (part n to m) lw old-length j (omega arith)) h j l
 
       pub entered-more : set (entered n to w m j) (to + j) (getD w j 0) ≡ entered n to w m (suc j)
       entered-more = over-more n w (part n to m) lw old-length to (take to m) (drop (to + n) m) front j l

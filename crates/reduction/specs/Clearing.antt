@@ -22,7 +22,8 @@ use Rattle.reduction.specs.Steps.{part, put, above, cleared}
 use Rattle.reduction.specs.Placing.{eliminate-length}
 
 module _ (q n : ℕ) (w : List ℕ) where
-  cleared-above : (r : List ℕ) (rs : List (List ℕ)) → leadOf n r < leadOf n w → cleared q n (r ∷ rs) w ≡ eliminate q n w r ∷ cleared q n rs w
+  cleared-above : (r : List ℕ) (rs : List (List ℕ)) → leadOf n r < leadOf n w
+      → cleared q n (r ∷ rs) w ≡ eliminate q n w r ∷ cleared q n rs w
   unfolding cleared
   cleared-above r rs h = ap (λ b. pick b (eliminate q n w r ∷ cleared q n rs w) []) (lt-ltb (leadOf n r) (leadOf n w) h)
 
@@ -76,7 +77,8 @@ module _ (q n d : ℕ) (m w : List ℕ) where
     pub clearing-rest : (k at : ℕ) → i * n ≤ at → part k at now ≡ part k at m
     clearing-rest k at l =
         let e : i * n + (at - i * n) ≡ at = omega arith in
-        ap (λ x. part k x now) (sym e) ∙ ap (take k) (sym (drop-drop (at - i * n) (i * n) now)) ∙ ap (λ x. take k (drop (at - i * n) x)) (c .same)
+        ap (λ x. part k x now) (sym e) ∙ ap (take k) (sym (drop-drop (at - i * n) (i * n) now))
+        ∙ ap (λ x. take k (drop (at - i * n) x)) (c .same)
         ∙ ap (take k) (drop-drop (at - i * n) (i * n) m) ∙ ap (λ x. part k x m) e
 
     module _ (h : i < d) where
@@ -98,7 +100,8 @@ module _ (q n d : ℕ) (m w : List ℕ) where
           record {
             within = h;
             sized =
-                ap length (sym split) ∙ length-append done after ∙ omega (arith, done-length, length-drop (suc i * n) now, c .sized, row-fits i d n h);
+                ap length (sym split) ∙ length-append done after
+                ∙ omega (arith, done-length, length-drop (suc i * n) now, c .sized, row-fits i d n h);
             same = ap (drop (suc i * n)) (sym split) ∙ drop-at done after (suc i * n) done-length ∙ after-same;
             bytes =
                 c .bytes ∙ ap (λ x. take (i * n) now ++ join (cleared q n x w)) next-row

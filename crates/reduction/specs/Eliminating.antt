@@ -81,7 +81,8 @@ module _ (q : ℕ) (laws : Laws q) (n d : ℕ) (m v : List ℕ) (fits : d * n + 
           read = ap (part n (d * n)) is ∙ part-put n (d * n) new now (new-row .0) (omega (arith, eliminating-length))
 
 -- the first row eliminated while v is written to the place of row d
-module _ (q : ℕ) (laws : Laws q) (n d : ℕ) (m v : List ℕ) (fits : d * n + n ≤ length m) (rows : All (Row q n) (rowsOf n d m)) (hv : Row q n v) (h : 0 < d) where
+module _ (q : ℕ) (laws : Laws q) (n d : ℕ) (m v : List ℕ) (fits : d * n + n ≤ length m) (rows : All (Row q n) (rowsOf n d m))
+    (hv : Row q n v) (h : 0 < d) where
   pub first-row : Row q n (part n 0 m)
   first-row = subst (λ x. Row q n (part n x m)) (zero-mul n) (rows-each n m d 0 n rows h (omega arith))
 

@@ -46,42 +46,51 @@ unfolding dimension reducedOf padded
 padded-held q laws n rows h size =
     rows-joined n (replicate (size - length (join (reducedRows q n rows))) 0) (rows-sized q n (reducedRows-kept q laws n rows h .rows))
 
-module _ (q : ℕ) (laws : Laws q) (n d : ℕ) (m : List ℕ) (kept : Kept q n (rowsOf n d m)) (held : m ≡ padded (n * n) (join (rowsOf n d m))) where
-  rows-bytes : length (join (rowsOf n d m)) ≡ d * n
-  rows-bytes = join-length n (rows-sized q n (kept .rows)) ∙ ap (λ x. x * n) (rows-length n d m)
+module _ (q : ℕ) (laws : Laws q) (n d : ℕ) (m : List ℕ) (kept : Kept q n (rowsOf n d m)) (held : m ≡ padded (n * n) (join (rowsOf n d m)))
+  where
+    rows-bytes : length (join (rowsOf n d m)) ≡ d * n
+    rows-bytes = join-length n (rows-sized q n (kept .rows)) ∙ ap (λ x. x * n) (rows-length n d m)
 
-  pub held-fits : d ≤ n
-  held-fits = omega (arith, reduced-le q n (length (rowsOf n d m)) (join (rowsOf n d m)) (kept .reduced), rows-length n d m)
+    pub held-fits : d ≤ n
+    held-fits = omega (arith, reduced-le q n (length (rowsOf n d m)) (join (rowsOf n d m)) (kept .reduced), rows-length n d m)
 
-  bytes-fit : d * n ≤ n * n
-  bytes-fit = mul-le-mul-right n held-fits
+    bytes-fit : d * n ≤ n * n
+    bytes-fit = mul-le-mul-right n held-fits
 
-  pub held-length : length m ≡ n * n
-  held-length = ap length held ∙ padded-length (n * n) (join (rowsOf n d m)) (omega (arith, rows-bytes, bytes-fit))
+    pub held-length : length m ≡ n * n
+    held-length = ap length held ∙ padded-length (n * n) (join (rowsOf n d m)) (omega (arith, rows-bytes, bytes-fit))
 
-  pub held-zeros : (k : ℕ) → d * n ≤ k → drop k m ≡ replicate (n * n - k) 0
-  held-zeros k h = ap (drop k) held ∙ drop-padded (n * n) k (join (rowsOf n d m)) (omega (arith, rows-bytes))
+    pub held-zeros : (k : ℕ) → d * n ≤ k → drop k m ≡ replicate (n * n - k) 0
+    held-zeros k h = ap (drop k) held ∙ drop-padded (n * n) k (join (rowsOf n d m)) (omega (arith, rows-bytes))
 
-  module _ (v : List ℕ) (hv : Row q n v) where
-    pub full-same : d ≡ n → rowsOf n d m ≡ insertRow q n (rowsOf n d m) v
-    full-same full = cases (ℕ-discrete (leadOf n left) n)
-      where
-        left : List ℕ
-        left = residue q n (rowsOf n d m) v
+    module _ (v : List ℕ) (hv : Row q n v) where
+      pub full-same : d ≡ n → rowsOf n d m ≡ insertRow q n (rowsOf n d m) v
+      full-same full = cases (ℕ-discrete (leadOf n left) n)
+        where
+          left : List ℕ
+          left = residue q n (rowsOf n d m) v
 
-        result : List (List ℕ)
-        result = insertRow q n (rowsOf n d m) v
+          result : List (List ℕ)
+          result = insertRow q n (rowsOf n d m) v
 
-        cases : Dec (leadOf n left ≡ n) → rowsOf n d m ≡ result
-        cases (yes e) = sym (insertRow-zero q n (rowsOf n d m) v e)
-        cases (no ne) =
-            absurd
-            (omega
-            (arith, full, rows-length n d m, reduced-le q n (length result) (join result) (insert-kept q laws n (rowsOf n d m) kept v hv .reduced), ap length (insertRow-other q n (rowsOf n d m) v ne), place-length q n (monic q n left) (rowsOf n d m)))
+          cases : Dec (leadOf n left ≡ n) → rowsOf n d m ≡ result
+          cases (yes e) = sym (insertRow-zero q n (rowsOf n d m) v e)
+          cases (no ne) =
+              absurd
+              (omega (
+                arith,
+                full,
+                rows-length n d m,
+                reduced-le q n (length result) (join result)
+                    (insert-kept q laws n (rowsOf n d m) kept v hv .reduced),
+                ap length (insertRow-other q n (rowsOf n d m) v ne),
+                place-length q n
+                    (monic q n left) (rowsOf n d m),
+              ))
 
-  module _ (room : d < n) where
-    pub row-room : d * n + n ≤ length m
-    row-room = omega (arith, row-fits d n n room, held-length)
+    module _ (room : d < n) where
+      pub row-room : d * n + n ≤ length m
+      row-room = omega (arith, row-fits d n n room, held-length)
 
-    pub room-zeros : drop (d * n + n) m ≡ replicate (length m - (d * n + n)) 0
-    room-zeros = held-zeros (d * n + n) (omega arith) ∙ ap (λ x. replicate (x - (d * n + n)) 0) (sym held-length)
+      pub room-zeros : drop (d * n + n) m ≡ replicate (length m - (d * n + n)) 0
+      room-zeros = held-zeros (d * n + n) (omega arith) ∙ ap (λ x. replicate (x - (d * n + n)) 0) (sym held-length)

@@ -1,19 +1,19 @@
 -- The leads of rows; no part of the meaning.
 --   lead-inside   == every reduced row has a lead
 --   lead-cleared  == clearing a later column in a row leaves its lead
---   leads-none, leads-more == the leads of no row, and of one row more
+--   leads-known   == the pivots of a matrix, as a list, are the leads of its rows
 --   leads-placed  == w's lead stands among those of the rows as w stands among the rows
 --   raised-leads  == what `raise` makes of a list of leads with one more
 -- Assumes nothing.
 use mathlib.Core.Path.{_≡_, refl, ap, ap₂, sym, _∙_, subst}
 use mathlib.Core.List.{List, [], _∷_, _++_, append-assoc}
 use mathlib.Core.Logic.{_⊎_, inl, inr}
-use Prim.Native.Nat.{ℕ, suc, _+_, _*_, _-_, _≤_, _<_}
+use Prim.Native.Nat.{ℕ, zero, suc, _+_, _*_, _-_, _≤_, _<_}
 use native.Mathlib.Nat.{mul-one}
 use native.Mathlib.Omega.{arith}
 use borrow.Author.Tests.{lt-ltb, le-ltb}
 use lib.ListN.{length, getD, take, drop, set, length-append, length-drop, length-set}
-use lib.Seq.{length-take-le, take-at, take-add, take-take, take-set-le, take-suc-set, drop-at, drop-cons, drop-set-add, getD-set-same}
+use lib.Seq.{length-take-le, take-at, take-add, take-take, take-set-le, take-suc, drop-at, drop-cons, drop-set-add, getD-set-same}
 use Rattle.basics.specs.Order.{le-or-lt}
 use Rattle.field.specs.Laws.{Laws}
 use Rattle.matrix.specs.Matrix.{pivot}
@@ -21,7 +21,7 @@ use Rattle.linear.specs.InsertMany.{Kept}
 use Rattle.linear.specs.ReducedRows.{rows-sized}
 use Rattle.linear.specs.Flat.{rows-length, join-pivot}
 use Rattle.linear.specs.Span.{All, none, more, Row, rowsOf}
-use Rattle.linear.specs.FlatRows.{rows-at, rows-last}
+use Rattle.linear.specs.FlatRows.{rows-at, rows-last, lead-part}
 use Rattle.linear.specs.Eliminate.{leadOf, eliminate, place, join}
 use Rattle.linear.specs.Element.{scalars}
 use Rattle.linear.specs.Elimination.{eliminate-row, eliminate-takes}
@@ -36,21 +36,22 @@ unfolding leads
 leads-append n [] r = refl
 leads-append n (s ∷ rs) r = ap (λ (x : List ℕ). leadOf n s ∷ x) (leads-append n rs r)
 
-pub leads-none : (n : ℕ) (m : List ℕ) → [] ≡ leads n (rowsOf n 0 m)
+pub leads-known : (n d : ℕ) (m pivots : List ℕ) → d ≤ length pivots → ((i : ℕ) → i < d → getD pivots i 0 ≡ pivot n m i)
+    → take d pivots ≡ leads n (rowsOf n d m)
 unfolding leads rowsOf
-leads-none n m = refl
-
-pub leads-more : (n i : ℕ) (m pivots : List ℕ) (p : ℕ) → i < length pivots → take i pivots ≡ leads n (rowsOf n i m) → p ≡ leadOf n (part n (i * n) m)
-    → take (suc i) (set pivots i p) ≡ leads n (rowsOf n (suc i) m)
-leads-more n i m pivots p room e is =
-    take-suc-set pivots i p room ∙ ap₂ (λ x y. x ++ (y ∷ [])) e is
-    ∙ sym (ap (leads n) (rows-last n m i) ∙ leads-append n (rowsOf n i m) (part n (i * n) m))
+leads-known n zero m pivots room known = refl
+leads-known n (suc d) m pivots room known =
+    take-suc pivots d 0 room
+    ∙ ap₂ (λ x y. x ++ (y ∷ [])) (leads-known n d m pivots (omega arith) (λ i h. known i (omega arith)))
+    (known d (omega arith) ∙ lead-part n m (d * n))
+    ∙ sym (ap (leads n) (rows-last n m d) ∙ leads-append n (rowsOf n d m) (part n (d * n) m))
 
 module _ (q : ℕ) (laws : Laws q) (n : ℕ) (w : List ℕ) (hw : Row q n w) where
   module _ (r : List ℕ) (hr : Row q n r) (h : leadOf n r < leadOf n w) where
     cleared-at : (j : ℕ) → j < leadOf n w → at q laws (eliminate q n w r) j ≡ at q laws r j
     cleared-at j b =
-        takenOff-kept (scalars q laws) (at q laws) (at q laws r (leadOf n w)) (eliminate-takes q laws n w r hw hr) j (at-before q laws n w j b)
+        takenOff-kept (scalars q laws) (at q laws) (at q laws r (leadOf n w)) (eliminate-takes q laws n w r hw hr) j
+        (at-before q laws n w j b)
 
     pub lead-cleared : leadOf n (eliminate q n w r) ≡ leadOf n r
     unfolding leadOf
@@ -67,7 +68,8 @@ module _ (q : ℕ) (laws : Laws q) (n : ℕ) (w : List ℕ) (hw : Row q n w) whe
     where
       cases : (leadOf n w ≤ leadOf n r) ⊎ (leadOf n r < leadOf n w)
           → leads n (place q n rs w) ≡ take (above n rs w) (leads n rs) ++ (leadOf n w ∷ drop (above n rs w) (leads n rs))
-          → leads n (place q n (r ∷ rs) w) ≡ take (above n (r ∷ rs) w) (leads n (r ∷ rs)) ++ (leadOf n w ∷ drop (above n (r ∷ rs) w) (leads n (r ∷ rs)))
+          → leads n (place q n (r ∷ rs) w) ≡ take (above n (r ∷ rs) w) (leads n (r ∷ rs))
+          ++ (leadOf n w ∷ drop (above n (r ∷ rs) w) (leads n (r ∷ rs)))
       cases (inl l) e = rw (le-ltb (leadOf n r) (leadOf n w) l) refl
       cases (inr l) e =
           rw (lt-ltb (leadOf n r) (leadOf n w) l) (ap₂ (λ (x : ℕ) (y : List ℕ). x ∷ y) (lead-cleared r h l) e)
@@ -115,8 +117,12 @@ raised-leads d at p pivots h room =
     sized : length (old ++ (p ∷ rest)) ≡ d + 1
     sized =
         length-append old (p ∷ rest)
-        ∙ omega
-        (arith, length-take-le at (take d pivots) (omega (arith, length-take-le d pivots (omega arith))), length-drop at (take d pivots), length-take-le d pivots (omega arith))
+        ∙ omega (
+          arith,
+          length-take-le at (take d pivots) (omega (arith, length-take-le d pivots (omega arith))),
+          length-drop at (take d pivots),
+          length-take-le d pivots (omega arith),
+        )
 
 module _ (q n d : ℕ) (m : List ℕ) (kept : Kept q n (rowsOf n d m)) where
   pivot-is : (i : ℕ) → i < d → pivot n (join (rowsOf n d m)) i ≡ leadOf n (take n (drop (i * n) m))

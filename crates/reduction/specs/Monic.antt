@@ -29,7 +29,8 @@ module _ (q : ℕ) (laws : Laws q) (n : ℕ) (v : List ℕ) (row : Row q n v) wh
   inverse-one =
       let one = laws .one-below in
       let below : invert q 1 < q = laws .invert-below 1 one in
-      sym (laws .multiply-one (invert q 1) below) ∙ laws .multiply-comm (invert q 1) below 1 one ∙ laws .multiply-invert 1 one (zero-lt-suc 0)
+      sym (laws .multiply-one (invert q 1) below) ∙ laws .multiply-comm (invert q 1) below 1 one
+      ∙ laws .multiply-invert 1 one (zero-lt-suc 0)
 
   once : (j : ℕ) → multiply q 1 (getD v j 0) ≡ getD v j 0
   once j =

@@ -101,7 +101,8 @@ module _ (q n d : ℕ) (m : List ℕ) where
   pub place-bytes : raised n (d * n) place-of (join (cleared q n rows w) ++ drop place-of m) ≡ join (place q n rows w) ++ drop (d * n + n) m
   place-bytes =
       ap₂ (λ x y. x ++ (take n y ++ (part (d * n - place-of) place-of cut ++ drop (d * n + n) cut))) before (cut-after (d * n) place-within)
-      ∙ ap₂ (λ x y. front ++ (w ++ (take (d * n - place-of) x ++ y))) (cut-after place-of (omega arith)) (cut-after (d * n + n) (omega (arith, place-within)))
+      ∙ ap₂ (λ x y. front ++ (w ++ (take (d * n - place-of) x ++ y))) (cut-after place-of (omega arith))
+      (cut-after (d * n + n) (omega (arith, place-within)))
       ∙ sym
       (ap (λ x. x ++ drop (d * n + n) m) placed-bytes
       ∙ append-assoc front (w ++ middle) (drop (d * n + n) m)

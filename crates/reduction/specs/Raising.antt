@@ -94,7 +94,8 @@ module _ (n z : ℕ) (a b c d : List ℕ) (la : length a ≡ z) (lb : length b �
   unfolding rows
   swapped-rows =
       ap₂ (λ (x y : List ℕ). x ++ (part n (z + n) rows ++ (part n z rows ++ y))) (take-at a (b ++ (c ++ d)) z la) after-three
-      ∙ ap₂ (λ (x y : List ℕ). a ++ (x ++ (y ++ d))) (ap (take n) after-two ∙ take-at c d n lc) (ap (take n) after-one ∙ take-at b (c ++ d) n lb)
+      ∙ ap₂ (λ (x y : List ℕ). a ++ (x ++ (y ++ d))) (ap (take n) after-two ∙ take-at c d n lc)
+      (ap (take n) after-one ∙ take-at b (c ++ d) n lb)
 
 module _ (n : ℕ) (m : List ℕ) where
   pub raised-none : (x : ℕ) → m ≡ raised n x x m

@@ -1,7 +1,7 @@
 -- The rows of a matrix taken in one after the other; no part of the meaning.
 --   Reducing         == the bytes hold the reduced rows of the first i rows, d of them, then zeros, and `pivots` their leads
 --   reducing-start   == before the first row
---   reducing-row, reducing-kept, reducing-held, reducing-leads == what taking in the next row asks
+--   reducing-row, reducing-asks == what taking in the next row asks, of the row and of the rows before it
 --   reducing-more    == one row more
 -- Assumes nothing.
 use mathlib.Core.Path.{_≡_, refl, ap, ap₂, sym, _∙_, subst}
@@ -48,15 +48,14 @@ module _ (q : ℕ) (laws : Laws q) (n count : ℕ) (input : List ℕ) (size : le
     same : rowsOf n d rows ≡ reducedRows q n (rowsOf n i input)
     same = ap₂ (rowsOf n) (c .count) (c .bytes) ∙ padded-held q laws n (rowsOf n i input) valid (n * n)
 
-    pub reducing-kept : Kept q n (rowsOf n d rows)
-    reducing-kept = subst (Kept q n) (sym same) (reducedRows-kept q laws n (rowsOf n i input) valid)
-
-    pub reducing-held : rows ≡ padded (n * n) (join (rowsOf n d rows))
+    pub reducing-asks : Kept q n (rowsOf n d rows) × (rows ≡ padded (n * n) (join (rowsOf n d rows)))
+        × (take d pivots ≡ leads n (rowsOf n d rows))
     unfolding reducedOf
-    reducing-held = c .bytes ∙ ap (λ x. padded (n * n) (join x)) (sym same)
-
-    pub reducing-leads : take d pivots ≡ leads n (rowsOf n d rows)
-    reducing-leads = c .known ∙ ap (leads n) (sym same)
+    reducing-asks = (
+      subst (Kept q n) (sym same) (reducedRows-kept q laws n (rowsOf n i input) valid),
+      c .bytes ∙ ap (λ x. padded (n * n) (join x)) (sym same),
+      c .known ∙ ap (leads n) (sym same),
+    )
 
     pub reducing-more : (r : ℕ) (row after new : List ℕ) → row ≡ take n (drop (i * n) input)
         → r ≡ length (insertRow q n (rowsOf n d rows) row)

@@ -38,7 +38,8 @@ module _ (n from to : ℕ) (m w : List ℕ) (lw : length w ≡ n) (h : to + n �
 
   before : from + n ≤ to → getD (put n to w m) (from + j) 0 ≡ getD m (from + j) 0
   before a =
-      List·getD-append (take to m) (w ++ drop (to + n) m) 0 (from + j) (omega (arith, put-front)) ∙ getD-take to m (from + j) 0 (omega arith)
+      List·getD-append (take to m) (w ++ drop (to + n) m) 0 (from + j) (omega (arith, put-front))
+      ∙ getD-take to m (from + j) 0 (omega arith)
 
   after : to + n ≤ from → getD (put n to w m) (from + j) 0 ≡ getD m (from + j) 0
   after a =

@@ -16,7 +16,8 @@ ghost use Rattle.reduction.specs.Steps.{part, put, Apart, plusMultiple, 
 fn add_scaled(q: u64, n: usize, c: u8, m: &mut [u8], from: usize, to: usize)
     requires { ⌜ T (isFieldSize q) × (c < q) × Row q n (part n from (now m)) × Row q n (part n to (now m)) × Apart n from to ⌝ }
     requires { ⌜ (from + n ≤ length (now m)) × (to + n ≤ length (now m)) ⌝ }
-    ensures { λ _. ⌜ now (m .exit) ≡ put n to (plusMultiple q n c (part n from (now (m .entry))) (part n to (now (m .entry)))) (now (m .entry)) ⌝ }
+    ensures { λ _. ⌜ now (m .exit)
+        ≡ put n to (plusMultiple q n c (part n from (now (m .entry))) (part n to (now (m .entry)))) (now (m .entry)) ⌝ }
 {
     let mut j = 0;
     while j < n {
@@ -30,7 +31,8 @@ fn add_scaled(q: u64, n: usize, c: u8, m: &mut [u8], from: usize, to: usize)
 fn eliminate(q: u64, n: usize, p: usize, m: &mut [u8], from: usize, to: usize)
     requires { ⌜ T (isFieldSize q) × (p < n) × Row q n (part n from (now m)) × Row q n (part n to (now m)) × Apart n from to ⌝ }
     requires { ⌜ (from + n ≤ length (now m)) × (to + n ≤ length (now m)) × (p ≡ leadOf n (part n from (now m))) ⌝ }
-    ensures { λ _. ⌜ now (m .exit) ≡ put n to (eliminated q n (part n from (now (m .entry))) (part n to (now (m .entry)))) (now (m .entry)) ⌝ }
+    ensures { λ _. ⌜ now (m .exit)
+        ≡ put n to (eliminated q n (part n from (now (m .entry))) (part n to (now (m .entry)))) (now (m .entry)) ⌝ }
 {
     let entry = m[to + p];
     if entry != 0 {
@@ -106,10 +108,13 @@ fn monic(q: u64, n: usize, p: usize, v: &mut [u8])
 
 // Clears p, the lead of row d, in those of the rows before it whose lead lies before p, and says how many they are.
 fn clear_above(q: u64, n: usize, d: usize, p: usize, m: &mut [u8], pivots: &[u8]) -> usize
-    requires { ⌜ T (isFieldSize q) × (d * n + n ≤ length (now m)) × All (Row q n) (rowsOf n d (now m)) × Row q n (part n (d * n) (now m)) ⌝ }
-    requires { ⌜ (d ≤ length (now pivots)) × (take d (now pivots) ≡ leads n (rowsOf n d (now m))) × (p < n) × (p ≡ leadOf n (part n (d * n) (now m))) ⌝ }
+    requires { ⌜ T (isFieldSize q) × (d * n + n ≤ length (now m)) × All (Row q n) (rowsOf n d (now m))
+        × Row q n (part n (d * n) (now m)) ⌝ }
+    requires { ⌜ (d ≤ length (now pivots)) × (take d (now pivots) ≡ leads n (rowsOf n d (now m))) × (p < n)
+        × (p ≡ leadOf n (part n (d * n) (now m))) ⌝ }
     ensures { λ r. ⌜ r ≡ above n (rowsOf n d (now (m .entry))) (part n (d * n) (now (m .entry))) ⌝ }
-    ensures { λ r. ⌜ now (m .exit) ≡ join (cleared q n (rowsOf n d (now (m .entry))) (part n (d * n) (now (m .entry)))) ++ drop (r * n) (now (m .entry)) ⌝ }
+    ensures { λ r. ⌜ now (m .exit) ≡ join (cleared q n (rowsOf n d (now (m .entry))) (part n (d * n) (now (m .entry))))
+        ++ drop (r * n) (now (m .entry)) ⌝ }
 {
     let from = d * n;
     let mut i = 0;
@@ -151,10 +156,14 @@ fn raise(n: usize, d: usize, at: usize, m: &mut [u8])
 
 // Puts row d among the d rows before it in the order of leads, and clears p, its lead, in the rows above it.
 fn place(q: u64, n: usize, d: usize, p: usize, m: &mut [u8], pivots: &mut [u8])
-    requires { ⌜ T (isFieldSize q) × (d * n + n ≤ length (now m)) × All (Row q n) (rowsOf n d (now m)) × Row q n (part n (d * n) (now m)) ⌝ }
-    requires { ⌜ (d < length (now pivots)) × (take d (now pivots) ≡ leads n (rowsOf n d (now m))) × (p < n) × (n ≤ 256) × (p ≡ leadOf n (part n (d * n) (now m))) ⌝ }
-    ensures { λ _. ⌜ now (m .exit) ≡ join (placed q n (rowsOf n d (now (m .entry))) (part n (d * n) (now (m .entry)))) ++ drop (d * n + n) (now (m .entry)) ⌝ }
-    ensures { λ _. ⌜ take (d + 1) (now (pivots .exit)) ≡ leads n (placed q n (rowsOf n d (now (m .entry))) (part n (d * n) (now (m .entry)))) ⌝ }
+    requires { ⌜ T (isFieldSize q) × (d * n + n ≤ length (now m)) × All (Row q n) (rowsOf n d (now m))
+        × Row q n (part n (d * n) (now m)) ⌝ }
+    requires { ⌜ (d < length (now pivots)) × (take d (now pivots) ≡ leads n (rowsOf n d (now m))) × (p < n) × (n ≤ 256)
+        × (p ≡ leadOf n (part n (d * n) (now m))) ⌝ }
+    ensures { λ _. ⌜ now (m .exit) ≡ join (placed q n (rowsOf n d (now (m .entry))) (part n (d * n) (now (m .entry))))
+        ++ drop (d * n + n) (now (m .entry)) ⌝ }
+    ensures { λ _. ⌜ take (d + 1) (now (pivots .exit))
+        ≡ leads n (placed q n (rowsOf n d (now (m .entry))) (part n (d * n) (now (m .entry)))) ⌝ }
 {
     let at = clear_above(q, n, d, p, m, pivots);
     raise(n, d, at, m);
@@ -168,7 +177,8 @@ fn insert_residue(q: u64, n: usize, d: usize, row: &[u8], m: &mut [u8], pivots: 
     requires { ⌜ (d < length (now pivots)) × (take d (now pivots) ≡ leads n (rowsOf n d (now m))) × (n ≤ 256) ⌝ }
     requires { ⌜ drop (d * n + n) (now m) ≡ replicate (length (now m) - (d * n + n)) 0 ⌝ }
     ensures { λ r. ⌜ r ≡ length (insertRow q n (rowsOf n d (now (m .entry))) (now (row .entry))) ⌝ }
-    ensures { λ _. ⌜ now (m .exit) ≡ padded (length (now (m .entry))) (join (insertRow q n (rowsOf n d (now (m .entry))) (now (row .entry)))) ⌝ }
+    ensures { λ _. ⌜ now (m .exit)
+        ≡ padded (length (now (m .entry))) (join (insertRow q n (rowsOf n d (now (m .entry))) (now (row .entry)))) ⌝ }
     ensures { λ r. ⌜ take r (now (pivots .exit)) ≡ leads n (insertRow q n (rowsOf n d (now (m .entry))) (now (row .entry))) ⌝ }
 {
     residue(q, n, d, row, m, pivots);
@@ -185,7 +195,8 @@ fn insert_residue(q: u64, n: usize, d: usize, row: &[u8], m: &mut [u8], pivots: 
 // Takes `row` into the d reduced rows of m, which has room for n rows and holds zeros after them, and answers how many there are now; n of
 // them span every row already. `pivots` holds their leads.
 pub fn insert(q: u64, n: usize, d: usize, row: &[u8], m: &mut [u8], pivots: &mut [u8]) -> usize
-    requires { ⌜ T (isFieldSize q) × Kept q n (rowsOf n d (now m)) × (now m ≡ padded (n * n) (join (rowsOf n d (now m)))) × Row q n (now row) ⌝ }
+    requires { ⌜ T (isFieldSize q) × Kept q n (rowsOf n d (now m)) × (now m ≡ padded (n * n) (join (rowsOf n d (now m))))
+        × Row q n (now row) ⌝ }
     requires { ⌜ (n ≤ length (now pivots)) × (take d (now pivots) ≡ leads n (rowsOf n d (now m))) × (n ≤ 256) ⌝ }
     ensures { λ r. ⌜ r ≡ length (insertRow q n (rowsOf n d (now (m .entry))) (now (row .entry))) ⌝ }
     ensures { λ _. ⌜ now (m .exit) ≡ padded (n * n) (join (insertRow q n (rowsOf n d (now (m .entry))) (now (row .entry)))) ⌝ }
@@ -197,20 +208,8 @@ pub fn insert(q: u64, n: usize, d: usize, row: &[u8], m: &mut [u8], pivots: &mut
     insert_residue(q, n, d, row, m, pivots)
 }
 
-// Writes the leads of the d rows of m to `pivots`.
-pub fn find_leads(n: usize, d: usize, m: &[u8], pivots: &mut [u8])
-    requires { ⌜ (n < 256) × (d * n ≤ length (now m)) × (d ≤ length (now pivots)) ⌝ }
-    ensures { λ _. ⌜ take d (now (pivots .exit)) ≡ leads n (rowsOf n d (now (m .entry))) ⌝ }
-{
-    let mut i = 0;
-    while i < d {
-        pivots[i] = matrix::lead(m, i * n, n) as u8;
-        i += 1;
-    }
-}
-
-// Takes the `count` rows of `input` into m, which is all zeros, and answers how many reduced rows it then holds. `pivots` is left with their
-// leads.
+// Takes the `count` rows of `input` into m, which is all zeros, and answers how many reduced rows it then holds. `pivots` is left with
+// their leads.
 pub fn reduce(
     q: u64,
     n: usize,

@@ -69,7 +69,8 @@ returns-2 : tie.Need-returns-2
 returns-2 c =
     let p = c .before .before .before in
     let s = p .before .before .before in
-    ap₂ _*_ (c .before .append-digits .ensures ∙ rw (zero-mul, zero-add)) (c .coefficient .ensures ∙ term-entry (s .pre .0) (found (p .before)))
+    ap₂ _*_ (c .before .append-digits .ensures ∙ rw (zero-mul, zero-add))
+    (c .coefficient .ensures ∙ term-entry (s .pre .0) (found (p .before)))
     ∙ sym (found (p .before) .by-entries (sym (v-is p) ∙ c .before .before .if1 .left))
 
 mul-result : tie.Need-mul-result

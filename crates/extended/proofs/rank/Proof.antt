@@ -44,8 +44,12 @@ add-index : tie.Need-add-index Inv-loop μ-loop
 add-index c =
     let l = c .before .before in
     let s = l .before .before in
-    omega
-    (arith, stepped c, terms-within (size-small (s .args .q) (s .pre .0 .size) .0) (s .pre .1) (l .loop .j + 1) (omega arith), s .pre .0 .counted)
+    omega (
+      arith,
+      stepped c,
+      terms-within (size-small (s .args .q) (s .pre .0 .size) .0) (s .pre .1) (l .loop .j + 1) (omega arith),
+      s .pre .0 .counted,
+    )
 
 loop-less : tie.Need-loop-less Inv-loop μ-loop
 loop-less c = omega arith

@@ -36,19 +36,22 @@ sub-c : tie.Need-sub-c Inv-loop μ-loop
 sub-c c = omega arith
 
 free-count-requires : tie.Need-free-count-requires Inv-loop μ-loop
-free-count-requires c κs = free-asked (c .before .before .before .before .before .before .before .pre .0) (c .before .loop .inv) (omega arith)
+free-count-requires c κs =
+    free-asked (c .before .before .before .before .before .before .before .pre .0) (c .before .loop .inv) (omega arith)
 
 coefficient-requires : tie.Need-coefficient-requires Inv-loop μ-loop
 coefficient-requires c κs =
     let l = c .before .before .before in
-    let asked = free-asked {c = l .loop .columns - 1} (l .before .before .before .before .before .before .pre .0) (l .loop .inv) (omega arith) in
+    let asked =
+    free-asked {c = l .loop .columns - 1} (l .before .before .before .before .before .before .pre .0) (l .loop .inv) (omega arith) in
     (asked .0, omega (arith, asked .1), asked .2)
 
 positive : (c : tie.After-coefficient Inv-loop μ-loop) → 0 < c .coefficient .result
 positive c =
     let f = c .before .before in
     let l = f .before .before in
-    each-positive (l .before .before .before .before .before .before .pre .0) (l .loop .inv) (omega arith) _ (f .free-count .ensures) _ (c .coefficient .ensures) (c .before .if1 .taken)
+    each-positive (l .before .before .before .before .before .before .pre .0) (l .loop .inv) (omega arith) _ (f .free-count .ensures) _
+    (c .coefficient .ensures) (c .before .if1 .taken)
 
 div-value : tie.Need-div-value Inv-loop μ-loop
 div-value c = positive c
@@ -59,14 +62,16 @@ rem-rest c = positive c
 write-digits-requires : tie.Need-write-digits-requires Inv-loop μ-loop
 write-digits-requires c κs =
     let l = c .before .before .before .before .before in
-    write-asked (l .before .before .before .before .before .before .pre .0) (l .loop .inv) (omega (arith, c .before .before .before .before .loop-test .taken))
+    write-asked (l .before .before .before .before .before .before .pre .0) (l .loop .inv)
+    (omega (arith, c .before .before .before .before .loop-test .taken))
 
 -- where the index is past those without a pivot, a row is left
 row-left : (c : tie.Else1 Inv-loop μ-loop) → 0 < c .before .before .before .loop .rows
 row-left c =
     let f = c .before in
     let l = f .before .before in
-    rows-positive (l .before .before .before .before .before .before .pre .0) (l .loop .inv) (omega (arith, f .before .loop-test .taken)) _ (f .free-count .ensures) (c .if1 .left)
+    rows-positive (l .before .before .before .before .before .before .pre .0) (l .loop .inv) (omega (arith, f .before .loop-test .taken)) _
+    (f .free-count .ensures) (c .if1 .left)
 
 sub-write-pivot : tie.Need-sub-write-pivot Inv-loop μ-loop
 sub-write-pivot c = row-left (c .before)
@@ -76,7 +81,8 @@ write-pivot-requires c κs =
     let e = c .before in
     let f = e .before in
     let l = f .before .before in
-    pivot-asked (l .before .before .before .before .before .before .pre .0) (l .loop .inv) (omega (arith, f .before .loop-test .taken)) _ (f .free-count .ensures) (e .if1 .left)
+    pivot-asked (l .before .before .before .before .before .before .pre .0) (l .loop .inv) (omega (arith, f .before .loop-test .taken)) _
+    (f .free-count .ensures) (e .if1 .left)
 
 sub-rows : tie.Need-sub-rows Inv-loop μ-loop
 sub-rows c = row-left (c .before .before .before .before)
@@ -90,7 +96,8 @@ loop-again c =
     let f = g .before .before in
     let l = f .before .before in
     let a = l .before .before .before .before .before .before .pre .0 in
-    unranking-free a (l .loop .inv) (omega (arith, f .before .loop-test .taken)) _ (f .free-count .ensures) _ (g .coefficient .ensures) (g .before .if1 .taken) (c .before .before .write-digits .ensures .0)
+    unranking-free a (l .loop .inv) (omega (arith, f .before .loop-test .taken)) _ (f .free-count .ensures) _ (g .coefficient .ensures)
+    (g .before .if1 .taken) (c .before .before .write-digits .ensures .0)
 
 loop-less-2 : tie.Need-loop-less-2 Inv-loop μ-loop
 loop-less-2 c = omega (arith, c .before .before .before .before .before .before .loop-test .taken)
@@ -101,7 +108,8 @@ loop-again-2 c =
     let f = e .before in
     let l = f .before .before in
     let a = l .before .before .before .before .before .before .pre .0 in
-    unranking-pivot a (l .loop .inv) (omega (arith, f .before .loop-test .taken)) _ (f .free-count .ensures) (e .if1 .left) (c .before .before .write-pivot .ensures)
+    unranking-pivot a (l .loop .inv) (omega (arith, f .before .loop-test .taken)) _ (f .free-count .ensures) (e .if1 .left)
+    (c .before .before .write-pivot .ensures)
 
 same-length : tie.Need-same-length Inv-loop μ-loop
 same-length c = c .before .loop .inv .drawing .sized ∙ sym (c .before .before .before .before .before .before .before .pre .2)

@@ -57,7 +57,12 @@ add-rows c =
     let start = l .before .before .before .before .before .before in
     let (s, a) = start .pre .1 in
     let told = sym (b .pivot-at .ensures) ∙ c .before .before .before .before .if1 .taken in
-    omega (arith, pivot-asked a (b .before .loop-test .taken) (l .loop .inv .1 s a) told .1, start .pre .0 .dimension, start .pre .0 .narrow)
+    omega (
+      arith,
+      pivot-asked a (b .before .loop-test .taken) (l .loop .inv .1 s a) told .1,
+      start .pre .0 .dimension,
+      start .pre .0 .narrow,
+    )
 
 write-digits-requires : tie.Need-write-digits-requires Inv-loop μ-loop
 write-digits-requires c κs =

@@ -1,4 +1,5 @@
--- `ferrers::place_of` meets its contract: the diagrams that come before by the columns passed and by the shape that is left make up the place.
+-- `ferrers::place_of` meets its contract: the diagrams that come before by the columns passed and by the shape that is left make up the
+-- place.
 use mathlib.Core.Path.{_≡_, _∙_, sym}
 use mathlib.Core.Bool.{true, false}
 use mathlib.Core.Logic.{⊎-elim}
@@ -52,7 +53,12 @@ free-boxes-requires c κs = omega arith
 add-place : tie.Need-add-place Inv-loop μ-loop
 add-place c =
     let s = c .before .before .before .before .before .before in
-    omega (arith, pivoted (c .before .before) _ (c .free-boxes .ensures) (c .before .if1 .taken) .fits, parts (s .pre .0) (s .pre .1) .place)
+    omega (
+      arith,
+      pivoted (c .before .before) _ (c .free-boxes .ensures) (c .before .if1 .taken) .fits,
+      parts (s .pre .0)
+          (s .pre .1) .place,
+    )
 
 sub-rows : tie.Need-sub-rows Inv-loop μ-loop
 sub-rows c = pivoted (c .before .before) _ (c .free-boxes .ensures) (c .before .if1 .taken) .some

@@ -42,10 +42,12 @@ counted c =
 
 multiplied : (c : tie.After-power) →
     let a = c .before .before .before .before .before .before .args in
-    c .power .result * c .before .before .before .place-of .result ≡ a .q ^ size (a .n) (a .k) (a .m .now) * placeOf (a .n) (a .k) (a .m .now)
+    c .power .result * c .before .before .before .place-of .result
+    ≡ a .q ^ size (a .n) (a .k) (a .m .now) * placeOf (a .n) (a .k) (a .m .now)
 multiplied c =
     let a = c .before .before .before .before .before .before .args in
-    ap₂ _*_ (c .power .ensures ∙ ap (_^_ (a .q)) (c .before .before .before .before .size-of .ensures)) (c .before .before .before .place-of .ensures)
+    ap₂ _*_ (c .power .ensures ∙ ap (_^_ (a .q)) (c .before .before .before .before .size-of .ensures))
+    (c .before .before .before .place-of .ensures)
 
 all : (c : tie.After-power) → let a = c .before .before .before .before .before .before .args in Parts (a .q) (a .n) (a .k) (a .m .now)
 all c = let s = c .before .before .before .before .before .before in parts (s .pre .0) (s .pre .1)

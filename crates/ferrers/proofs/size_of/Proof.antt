@@ -28,7 +28,8 @@ pivot-at-requires c κs = omega arith
 passed : (c : tie.After-pivot-at Inv-loop μ-loop) →
     let l = c .before .before in let a = l .before .before .args in
     let q = l .loop .inv .1 .0 in
-    (c .pivot-at .result ≡ true → (1 ≤ l .loop .rows) × Counting q (a .n) (a .k) (a .m .now) (l .loop .c - 1) (l .loop .rows - 1) (l .loop .dots))
+    (c .pivot-at .result ≡ true → (1 ≤ l .loop .rows)
+    × Counting q (a .n) (a .k) (a .m .now) (l .loop .c - 1) (l .loop .rows - 1) (l .loop .dots))
     × (c .pivot-at .result ≡ false
     → (l .loop .dots + l .loop .rows ≤ size (a .n) (a .k) (a .m .now))
     × Counting q (a .n) (a .k) (a .m .now) (l .loop .c - 1) (l .loop .rows) (l .loop .dots + l .loop .rows))
@@ -57,7 +58,8 @@ loop-again : tie.Need-loop-again Inv-loop μ-loop
 loop-again c =
     let q = c .before .before .before .loop .inv .1 .0 in (
       omega arith,
-      ⊎-elim (λ w. (q, rw (w .1, w .2) (passed (c .before) .0 (w .0 .taken) .1))) (λ w. (q, rw (w .1, w .2) (passed (c .before) .1 (w .0 .left) .1)))
+      ⊎-elim (λ w. (q, rw (w .1, w .2) (passed (c .before) .0 (w .0 .taken) .1)))
+          (λ w. (q, rw (w .1, w .2) (passed (c .before) .1 (w .0 .left) .1)))
           (c .if1 .came),
     )
 

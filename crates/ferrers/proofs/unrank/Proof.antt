@@ -45,7 +45,8 @@ shaped c =
     let found = p .before .find-size in
     let (big, small) = size-small (s .args .q) (s .pre .0 .size) in
     diagram-shaped _ _ _ (found .result .size) _ _ _ (omega arith) (found-place _ (p .power .ensures) (found .ensures) (positive p))
-    (subst (λ y. found .result .rest % p .power .result < y) (p .power .ensures) (mod-lt (found .result .rest) (positive p))) (c .vector-at .ensures)
+    (subst (λ y. found .result .rest % p .power .result < y) (p .power .ensures) (mod-lt (found .result .rest) (positive p)))
+    (c .vector-at .ensures)
 
 draw-requires : tie.Need-draw-requires
 draw-requires c κs =

@@ -1,5 +1,5 @@
--- `ferrers::vector_at` meets its contract: v holds the bits of the columns passed, and the others are those of the dots and the place that are
--- left.
+-- `ferrers::vector_at` meets its contract: v holds the bits of the columns passed, and the others are those of the dots and the place that
+-- are left.
 use native.Mathlib.Omega.{arith}
 use Rattle.ferrers.specs.DiagramVector.{
   Telling,

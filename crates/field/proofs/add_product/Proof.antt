@@ -1,4 +1,5 @@
--- `field::add_product` meets its contract: the last bit or the reciprocal gives the sum's remainder, which is that of the sum with the product's remainder.
+-- `field::add_product` meets its contract: the last bit or the reciprocal gives the sum's remainder, which is that of the sum with the
+-- product's remainder.
 use mathlib.Core.Path.{ap, _∙_, sym}
 use Prim.Native.Nat.{_+_, _*_, _%_}
 use native.Mathlib.Nat.{add-mod-mod}
@@ -50,7 +51,8 @@ returns-2 : tie.Need-returns-2
 unfolding sum product
 returns-2 c =
     let a = c .before .before .args in
-    sum-reciprocal (a .q) _ _ _ _ (c .before .before .pre) (c .reciprocal .ensures) .remainder ∙ sym (add-mod-mod (a .a) (a .c * a .b) (a .q))
+    sum-reciprocal (a .q) _ _ _ _ (c .before .before .pre) (c .reciprocal .ensures) .remainder
+    ∙ sym (add-mod-mod (a .a) (a .c * a .b) (a .q))
 
 pub add-product-spec : {M : Type 1} → statement M
 add-product-spec =

@@ -40,7 +40,8 @@ stepped : (c : tie.In-loop Inv-loop μ-loop) →
 stepped c =
     let a = c .before .before .args in
     let p = c .before .before .pre in
-    let grows = append-grows (a .q) (entry (a .n) (a .m .now)) (a .c) (p .0) (a .x) (suc (c .before .loop .i)) (a .rows) (c .loop-test .taken) in
+    let grows =
+    append-grows (a .q) (entry (a .n) (a .m .now)) (a .c) (p .0) (a .x) (suc (c .before .loop .i)) (a .rows) (c .loop-test .taken) in
     omega (arith, next c, grows, p .3)
 
 mul-value : tie.Need-mul-value Inv-loop μ-loop

@@ -29,8 +29,12 @@ loop-less c = omega arith
 loop-again : tie.Need-loop-again Inv-loop μ-loop
 loop-again c =
     let l = c .before in
-    let m₀ = l .before .args .m .now in
-    (omega arith, simp length-set (l .loop .inv .1), ap (λ x. set x (l .loop .i) 0) (l .loop .inv .2) ∙ fill-more (l .loop .i) 0 m₀ (omega arith))
+    let m₀ = l .before .args .m .now in (
+      omega arith,
+      simp length-set (l .loop .inv .1),
+      ap (λ x. set x (l .loop .i) 0) (l .loop .inv .2)
+          ∙ fill-more (l .loop .i) 0 m₀ (omega arith),
+    )
 
 same-length : tie.Need-same-length Inv-loop μ-loop
 same-length c = c .before .loop .inv .1
@@ -40,7 +44,8 @@ returns c =
     let l = c .before in
     let m₀ = l .before .args .m .now in
     let e : l .loop .i ≡ length m₀ = omega arith in
-    l .loop .inv .2 ∙ ap (λ x. replicate (l .loop .i) 0 ++ x) (drop-of-length-le m₀ {i = l .loop .i} (omega arith)) ∙ append-nil (replicate (l .loop .i) 0) ∙ ap (λ x. replicate x 0) e
+    l .loop .inv .2 ∙ ap (λ x. replicate (l .loop .i) 0 ++ x) (drop-of-length-le m₀ {i = l .loop .i} (omega arith))
+    ∙ append-nil (replicate (l .loop .i) 0) ∙ ap (λ x. replicate x 0) e
 
 pub clear-spec : {M : Type 1} → statement M
 clear-spec =

@@ -45,8 +45,10 @@ loop-again c =
       ⊎-elim (λ w. omega (arith, w .2, byte)) (λ w. omega (arith, w .1, l .loop .inv .1)) (c .if2 .came),
       rw add-one
           (⊎-elim
-          (λ w. below-more (a .q) (a .m .now) (l .loop .i) (l .loop .greatest) (c .if2 .greatest) before (omega (arith, w .2, w .0 .taken)) (omega (arith, w .2)) (inr (w .2)))
-          (λ w. below-more (a .q) (a .m .now) (l .loop .i) (l .loop .greatest) (c .if2 .greatest) before (omega (arith, w .1)) (omega (arith, w .1, w .0 .left)) (inl (w .1)))
+          (λ w. below-more (a .q) (a .m .now) (l .loop .i) (l .loop .greatest) (c .if2 .greatest) before (omega (arith, w .2, w .0 .taken))
+          (omega (arith, w .2)) (inr (w .2)))
+          (λ w. below-more (a .q) (a .m .now) (l .loop .i) (l .loop .greatest) (c .if2 .greatest) before (omega (arith, w .1))
+          (omega (arith, w .1, w .0 .left)) (inl (w .1)))
           (c .if2 .came)),
     )
 

@@ -41,7 +41,9 @@ returns : tie.Need-returns Inv-loop μ-loop
 returns c =
     let t = c .before .before .before in
     let a = t .before .before .before .before .args in
-    let fails = sym (gathered-fails (t .before .loop .inv) (t .loop-test .taken) (sym (c .before .row-reduced .ensures) ∙ not-true _ (c .if1 .taken))) in
+    let fails =
+    sym (gathered-fails (t .before .loop .inv) (t .loop-test .taken)
+    (sym (c .before .row-reduced .ensures) ∙ not-true _ (c .if1 .taken))) in
     (fails, ap (λ b. pick b (identifying (a .n) (a .k) (a .m .now)) 0) fails)
 
 gathering : (c : tie.Else1 Inv-loop μ-loop) →
@@ -52,20 +54,9 @@ gathering c =
     gathered-step (t .before .loop .inv) (t .before .before .before .before .pre .0) (t .loop-test .taken)
     (sym (c .before .row-reduced .ensures) ∙ not-false _ (c .if1 .left))
 
-sub-vector : tie.Need-sub-vector Inv-loop μ-loop
-sub-vector c = omega (arith, gathering c .inside)
-
-sub-vector-2 : tie.Need-sub-vector-2 Inv-loop μ-loop
-sub-vector-2 c = omega (arith, gathering c .inside)
-
-cast-vector : tie.Need-cast-vector Inv-loop μ-loop
-cast-vector c = omega (arith, c .before .before .before .before .before .before .before .pre .0)
-
-shl-vector : tie.Need-shl-vector Inv-loop μ-loop
-shl-vector c = omega (arith, gathering c .inside, c .before .before .before .before .before .before .before .pre .0)
-
-add-vector : tie.Need-add-vector Inv-loop μ-loop
-add-vector c = record { fits = gathering c .fits }
+add-pivot-requires : tie.Need-add-pivot-requires Inv-loop μ-loop
+add-pivot-requires c κs =
+    (c .before .before .before .before .before .before .before .pre .0, gathering c .inside, gathering c .fits)
 
 add-i : tie.Need-add-i Inv-loop μ-loop
 add-i c = omega arith
@@ -75,9 +66,11 @@ loop-less c = omega arith
 
 loop-again : tie.Need-loop-again Inv-loop μ-loop
 loop-again c =
-    let t = c .before .before .before in
-    let a = t .before .before .before .before .args in
-    rw add-one (gathering c .next _ (c .before .before .pivot-of2 .ensures ∙ ap (pivotOf (a .n) (a .k) (a .m .now)) (add-one _)))
+    let e = c .before in
+    let a = e .before .before .before .before .before .before .before .args in
+    rw add-one
+    (gathering e .next _ _ (c .add-pivot .ensures)
+    (e .before .before .pivot-of2 .ensures ∙ ap (pivotOf (a .n) (a .k) (a .m .now)) (add-one _)))
 
 returns-2 : tie.Need-returns-2 Inv-loop μ-loop
 returns-2 c =
@@ -97,11 +90,7 @@ reduced-vector-spec =
     pivot-of-requires-2
     row-reduced-requires
     returns
-    sub-vector
-    sub-vector-2
-    cast-vector
-    shl-vector
-    add-vector
+    add-pivot-requires
     add-i
     loop-less
     loop-again

@@ -10,13 +10,28 @@ returns : tie.Need-returns
 returns c = sym (above-zero _ _ _ _ _ (c .if1 .taken))
 
 mul-if2 : tie.Need-mul-if2
-mul-if2 c = omega (arith, row-fits (c .before .before .args .i) (c .before .before .args .k) (c .before .before .args .n) (c .before .before .pre .0))
+mul-if2 c =
+    omega (
+      arith,
+      row-fits (c .before .before .args .i) (c .before .before .args .k) (c .before .before .args .n)
+          (c .before .before .pre .0),
+    )
 
 add-if2 : tie.Need-add-if2
-add-if2 c = omega (arith, row-fits (c .before .before .args .i) (c .before .before .args .k) (c .before .before .args .n) (c .before .before .pre .0))
+add-if2 c =
+    omega (
+      arith,
+      row-fits (c .before .before .args .i) (c .before .before .args .k) (c .before .before .args .n)
+          (c .before .before .pre .0),
+    )
 
 shared-slice-read-if2 : tie.Need-shared-slice-read-if2
-shared-slice-read-if2 c = omega (arith, row-fits (c .before .before .before .args .i) (c .before .before .before .args .k) (c .before .before .before .args .n) (c .before .before .before .pre .0))
+shared-slice-read-if2 c =
+    omega (
+      arith,
+      row-fits (c .before .before .before .args .i) (c .before .before .before .args .k) (c .before .before .before .args .n)
+          (c .before .before .before .pre .0),
+    )
 
 returns-2 : tie.Need-returns-2
 returns-2 c = sym (above-not-one _ _ _ _ _ (c .before .before .if1 .left) (c .if2 .taken))
@@ -24,7 +39,8 @@ returns-2 c = sym (above-not-one _ _ _ _ _ (c .before .before .if1 .left) (c .if
 returns-3 : tie.Need-returns-3
 returns-3 c =
     let b = c .before in
-    sym (above-not-rising _ _ _ _ _ (b .before .before .if1 .left) (b .if2 .left) (rw (b .before .before .before .before .pre .2) at (c .if3 .taken)))
+    sym (above-not-rising _ _ _ _ _ (b .before .before .if1 .left) (b .if2 .left)
+    (rw (b .before .before .before .before .pre .2) at (c .if3 .taken)))
 
 rows-above-requires : tie.Need-rows-above-requires
 rows-above-requires c κs =
@@ -35,7 +51,8 @@ returns-4 : tie.Need-returns-4
 returns-4 c =
     let b = c .before .before in
     c .rows-above .ensures
-    ∙ sym (above-rest _ _ _ _ _ (b .before .before .if1 .left) (b .if2 .left) (rw (b .before .before .before .before .pre .2) at (c .before .if3 .left)))
+    ∙ sym (above-rest _ _ _ _ _ (b .before .before .if1 .left) (b .if2 .left)
+    (rw (b .before .before .before .before .pre .2) at (c .before .if3 .left)))
 
 pub row-reduced-spec : {M : Type 1} → statement M
 row-reduced-spec =

@@ -34,8 +34,12 @@ fits c =
     let l = c .before .before in
     let s = l .before .before in
     let a = s .args in
-    omega
-    (arith, row-fits (l .loop .i - 1) (a .k) (a .n) (omega (arith, l .loop .inv .0, s .pre .3, c .before .loop-test .taken)), l .loop .inv .2 .sized, s .pre .4)
+    omega (
+      arith,
+      row-fits (l .loop .i - 1) (a .k) (a .n) (omega (arith, l .loop .inv .0, s .pre .3, c .before .loop-test .taken)),
+      l .loop .inv .2 .sized,
+      s .pre .4,
+    )
 
 mul-m : tie.Need-mul-m Inv-loop μ-loop
 mul-m c = omega (arith, fits c)
@@ -59,10 +63,13 @@ loop-again c =
     let s = l .before .before in
     let a = s .args in
     let next : suc (l .loop .i - 1) ≡ l .loop .i = omega (arith, d .before .loop-test .taken) in
-    let step = step-digit (a .q) (a .rows) (a .x) (l .loop .i - 1) (l .loop .i) (l .loop .rest) next (l .loop .inv .1) (omega (arith, l .loop .inv .0)) in (
+    let step =
+    step-digit (a .q) (a .rows) (a .x) (l .loop .i - 1) (l .loop .i) (l .loop .rest) next (l .loop .inv .1)
+    (omega (arith, l .loop .inv .0)) in (
       omega (arith, l .loop .inv .0),
       c .other-digits .ensures ∙ step .rest-is,
-      written-step _ _ _ _ _ _ _ _ _ (s .pre .2) next (omega (arith, l .loop .inv .0, s .pre .3)) (s .pre .4) (step .digit-is ∙ sym (d .last-digit .ensures)) (l .loop .inv .2),
+      written-step _ _ _ _ _ _ _ _ _ (s .pre .2) next (omega (arith, l .loop .inv .0, s .pre .3)) (s .pre .4)
+          (step .digit-is ∙ sym (d .last-digit .ensures)) (l .loop .inv .2),
     )
 
 same-length : tie.Need-same-length Inv-loop μ-loop

@@ -1,6 +1,7 @@
 -- A row taken into the bytes of a receiver, as the code does it; no part of the meaning.
 --   lent-fits, lent-size     == the n·n entries that are lent
 --   lent-kept, lent-held     == they hold the receiver's rows, with zeros after them
+--   lent-leads               == the leads of these rows are the pivots of what the receiver uses
 --   taken-raised, taken-held == what the row reduction leaves in them is the receiver with the row taken in, by the answer
 -- Assumes nothing.
 use mathlib.Core.Path.{_≡_, ap, ap₂, sym, _∙_, subst}
@@ -10,10 +11,11 @@ use native.Mathlib.Nat.{mul-le-mul-right}
 use native.Mathlib.Omega.{arith}
 use borrow.Author.Tests.{lt-ltb, le-ltb}
 use lib.Dec.{ltb}
-use lib.ListN.{length, take, drop, replicate, length-replicate, replicate-append-replicate, take-append-drop}
+use lib.ListN.{length, getD, take, drop, replicate, length-replicate, replicate-append-replicate, take-append-drop}
 use lib.Seq.{length-take-le, take-at, take-take, take-append-add}
 use Rattle.basics.specs.Choice.{pick}
 use Rattle.field.specs.Laws.{Laws}
+use Rattle.matrix.specs.Matrix.{pivot}
 use Rattle.linear.specs.Span.{Row, rowsOf}
 use Rattle.linear.specs.Eliminate.{join, insertRow, reducedRows, reducedOf, dimension}
 use Rattle.linear.specs.Flat.{join-length}
@@ -23,8 +25,11 @@ use Rattle.linear.specs.OneMore.{reducedRows-more}
 use Rattle.linear.specs.ReducedOf.{reduced-le}
 use Rattle.linear.specs.ReducedRows.{rows-sized}
 use Rattle.linear.specs.SameMatrix.{reducedRows-again}
+use Rattle.reduction.specs.Leading.{leads-known}
 use Rattle.reduction.specs.Padded.{padded}
-use Rattle.receiver.specs.Receiver.{heldRows, holding, takenIn}
+use Rattle.reduction.specs.Parts.{rows-front}
+use Rattle.reduction.specs.Steps.{leads}
+use Rattle.receiver.specs.Receiver.{used, heldRows, holding, takenIn}
 use Rattle.receiver.specs.laws.Sound.{Sound, used-fit}
 use Rattle.receiver.specs.laws.Held.{settings-laws, held-kept, held-join, held-length, rest-zero}
 use Rattle.receiver.specs.declared.Receiver.{Receiver}
@@ -76,6 +81,17 @@ module _ (r : Receiver) (size : length (r .entries) ≡ 256) (s : Sound r) where
       ∙ take-at (replicate (r .n * r .n - used) 0) (replicate (256 - r .n * r .n) 0) (r .n * r .n - used) (length-replicate {A = ℕ} (r .n * r .n - used) 0))
       ∙ ap (λ x. join (heldRows r) ++ replicate (r .n * r .n - x) 0) (sym held)
       ∙ ap (λ x. padded (r .n * r .n) (join x)) (sym lent-rows)
+
+  pub lent-leads : (pivots : List ℕ) → r .dimension ≤ length pivots
+      → ((i : ℕ) → i < r .dimension → getD pivots i 0 ≡ pivot (r .n) (used r) i)
+      → take (r .dimension) pivots ≡ leads (r .n) (rowsOf (r .n) (r .dimension) (take (r .n * r .n) (r .entries)))
+  lent-leads pivots room known =
+      let size : ℕ = r .dimension * r .n in
+      leads-known (r .n) (r .dimension) (used r) pivots room known
+      ∙ ap (leads (r .n))
+      (sym (rows-front (r .n) (r .dimension) (used r) (drop size lent) (omega (arith, s .reduced .size)))
+      ∙ ap (λ (x : List ℕ). rowsOf (r .n) (r .dimension) (x ++ drop size lent)) (sym (take-take size (r .n * r .n) (r .entries) used-lent))
+      ∙ ap (rowsOf (r .n) (r .dimension)) (take-append-drop size lent))
 
   module _ (row : List ℕ) (hr : Row (r .q) (r .n) row) where
     -- the rows that come out

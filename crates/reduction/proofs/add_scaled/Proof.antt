@@ -34,7 +34,8 @@ summand c =
     let b = l .before .before in
     let a = b .args in
     ap (λ x. getD x (a .to + l .loop .j) 0) (l .loop .inv .2)
-    ∙ entered-to (a .n) (a .to) (plusMultiple (a .q) (a .n) (a .c) (part (a .n) (a .from) (a .m .now)) (part (a .n) (a .to) (a .m .now))) (a .m .now) (sum-length _ _ _ _ _) (b .pre .1 .1) (l .loop .j) (c .loop-test .taken)
+    ∙ entered-to (a .n) (a .to) (plusMultiple (a .q) (a .n) (a .c) (part (a .n) (a .from) (a .m .now)) (part (a .n) (a .to) (a .m .now)))
+    (a .m .now) (sum-length _ _ _ _ _) (b .pre .1 .1) (l .loop .j) (c .loop-test .taken)
 
 factor : (c : tie.In-loop Inv-loop μ-loop) →
     let l = c .before in
@@ -45,7 +46,9 @@ factor c =
     let b = l .before .before in
     let a = b .args in
     ap (λ x. getD x (a .from + l .loop .j) 0) (l .loop .inv .2)
-    ∙ entered-apart (a .n) (a .to) (plusMultiple (a .q) (a .n) (a .c) (part (a .n) (a .from) (a .m .now)) (part (a .n) (a .to) (a .m .now))) (a .m .now) (sum-length _ _ _ _ _) (b .pre .1 .1) (l .loop .j) (c .loop-test .taken) (a .from) (b .pre .0 .4)
+    ∙ entered-apart (a .n) (a .to) (plusMultiple (a .q) (a .n) (a .c) (part (a .n) (a .from) (a .m .now))
+    (part (a .n) (a .to) (a .m .now))) (a .m .now) (sum-length _ _ _ _
+    _) (b .pre .1 .1) (l .loop .j) (c .loop-test .taken) (a .from) (b .pre .0 .4)
 
 add-add-product : tie.Need-add-add-product Inv-loop μ-loop
 add-add-product c = omega arith

@@ -125,10 +125,12 @@ loop-again c =
     let b = l .before .before .before in
     let a = b .args in
     rw add-one
-    (clearing-more (a .q) (a .n) (a .d) (a .m .now) _ (l .loop .i) (l .loop .m) (l .loop .inv) (t .loop-test .taken) _ (omega (arith, b .pre .0 .1))
+    (clearing-more (a .q) (a .n) (a .d) (a .m .now) _ (l .loop .i) (l .loop .m) (l .loop .inv) (t .loop-test .taken) _
+    (omega (arith, b .pre .0 .1))
     (subst₂ _<_ (lead-here t) (b .pre .1 .3) (f .if1 .left))
     (e .eliminate .ensures
-    ∙ ap (λ x. put (a .n) (l .loop .i * a .n) (eliminate (a .q) (a .n) x (part (a .n) (l .loop .i * a .n) (l .loop .m))) (l .loop .m)) (same-last t)))
+    ∙ ap (λ x. put (a .n) (l .loop .i * a .n) (eliminate (a .q) (a .n) x (part (a .n) (l .loop .i * a .n) (l .loop .m))) (l .loop .m))
+    (same-last t)))
 
 same-length-2 : tie.Need-same-length-2 Inv-loop μ-loop
 same-length-2 c = c .before .loop .inv .sized

@@ -1,5 +1,7 @@
 -- `reduction::divide` meets its contract: the inverse of the entry at the lead scales it.
 use mathlib.Core.Path.{_≡_, ap, _∙_}
+use Prim.Native.Nat.{_<_}
+use native.Mathlib.Omega.{arith}
 use lib.ListN.{getD}
 use Rattle.field.specs.Decide.{laws}
 use Rattle.field.specs.Field.{invert}
@@ -31,7 +33,10 @@ scale-requires c κs =
     let b = c .before .before .before .before in
     let a = b .args in
     let law = laws (a .q) (b .pre .0) in
-    (b .pre .0, rw (factor (c .before)) (law .invert-below _ (row-below (a .q) law (a .n) (b .pre .1) _)), b .pre .1)
+    let below : getD (a .v .now) (a .p) 0 < a .q = row-below (a .q) law (a .n) (b .pre .1) (a .p) in
+    let inverse : c .before .invert .result < a .q =
+    rw (factor (c .before)) (law .invert-below _ (row-below (a .q) law (a .n) (b .pre .1) _)) in
+    (b .pre .0, omega (arith, below, inverse), b .pre .1)
 
 same-length : tie.Need-same-length
 same-length c = search needs

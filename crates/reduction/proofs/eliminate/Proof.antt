@@ -1,6 +1,7 @@
 -- `reduction::eliminate` meets its contract: it adds the multiple, and leaves out a multiple that is zero.
 use mathlib.Core.Path.{_≡_, ap, sym, _∙_}
 use Prim.Native.Nat.{_+_, _<_}
+use native.Mathlib.Omega.{arith}
 use lib.ListN.{getD}
 use Rattle.field.specs.Decide.{laws}
 use Rattle.field.specs.Field.{negate}
@@ -38,8 +39,9 @@ add-scaled-requires c κs =
     let p = b .pre .0 in
     let law = laws (a .q) (p .0) in
     let factor = c .before .negate .ensures ∙ in-field (a .q) _ (p .0) ∙ ap (negate (a .q)) (entry b) in
-    let below : c .before .negate .result < a .q = rw factor (law .negate-below _ (row-below (a .q) law (a .n) (p .3) _)) in
-    ((p .0, below, p .2, p .3, p .4), (b .pre .1 .0, b .pre .1 .1))
+    let below : getD (a .m .now) (a .to + a .p) 0 < a .q = rw (entry b) (row-below (a .q) law (a .n) (p .3) _) in
+    let negative : c .before .negate .result < a .q = rw factor (law .negate-below _ (row-below (a .q) law (a .n) (p .3) _)) in
+    ((p .0, omega (arith, below, negative), p .2, p .3, p .4), (b .pre .1 .0, b .pre .1 .1))
 
 same-length : tie.Need-same-length
 same-length c = search needs

@@ -53,7 +53,8 @@ first c =
     let b = l .before .before .before .before .before in
     let a = b .args in
     ap₂ (λ x y. getD x y 0) (l .loop .inv .2) (sym (zero-add (l .loop .j)))
-    ∙ entered-apart (a .n) (a .to) (plusMultiple (a .q) (a .n) (l .before .negate .result) (part (a .n) 0 (a .m .now)) (a .row .now)) (a .m .now)
+    ∙ entered-apart (a .n) (a .to) (plusMultiple (a .q) (a .n) (l .before .negate .result) (part (a .n) 0 (a .m .now)) (a .row .now))
+    (a .m .now)
     (sum-length _ _ _ _ _) (b .pre .0 .5) (l .loop .j) (c .loop-test .taken) 0 (inl (omega (arith, b .pre .0 .4)))
 
 shared-slice-read-add-product : tie.Need-shared-slice-read-add-product Inv-loop μ-loop
@@ -121,7 +122,8 @@ returns c =
     let e : l .loop .j ≡ a .n = omega arith in
     l .loop .inv .2
     ∙ ap (entered (a .n) (a .to) _ (a .m .now)) e
-    ∙ entered-all (a .n) (a .to) _ (a .m .now) (sum-length (a .q) (a .n) (l .before .negate .result) (part (a .n) 0 (a .m .now)) (a .row .now)) (b .pre .0 .5)
+    ∙ entered-all (a .n) (a .to) _ (a .m .now)
+    (sum-length (a .q) (a .n) (l .before .negate .result) (part (a .n) 0 (a .m .now)) (a .row .now)) (b .pre .0 .5)
     ∙ ap (λ x. put (a .n) (a .to) (plusMultiple (a .q) (a .n) x (part (a .n) 0 (a .m .now)) (a .row .now)) (a .m .now)) (factor (l .before))
 
 pub enter-spec : {M : Type 1} → statement M

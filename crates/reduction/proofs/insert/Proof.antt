@@ -18,7 +18,9 @@ returns : tie.Need-returns
 returns c =
     let b = c .before .before .before .before in
     let a = b .args in
-    let same = full-same (a .q) (laws (a .q) (b .pre .0 .0)) (a .n) (a .d) (a .m .now) (b .pre .0 .1) (b .pre .0 .2) (a .row .now) (b .pre .0 .3) (c .if1 .taken) in (
+    let same =
+    full-same (a .q) (laws (a .q) (b .pre .0 .0)) (a .n) (a .d) (a .m .now) (b .pre .0 .1) (b .pre .0 .2) (a .row .now) (b .pre .0 .3)
+    (c .if1 .taken) in (
       sym (rows-length (a .n) (a .d) (a .m .now)) ∙ ap length same,
       (b .pre .0 .2 ∙ ap (λ x. padded (a .n * a .n) (join x)) same, b .pre .1 .1 ∙ ap (leads (a .n)) same),
     )
@@ -35,8 +37,17 @@ insert-residue-requires c κs =
     let f = c .before .before in
     let b = f .before .before .before .before in
     let a = b .args in (
-      (b .pre .0 .0, row-room (a .q) (laws (a .q) (b .pre .0 .0)) (a .n) (a .d) (a .m .now) (b .pre .0 .1) (b .pre .0 .2) (room f), b .pre .0 .1, b .pre .0 .3),
-      ((omega (arith, room f, b .pre .1 .0), b .pre .1 .1, b .pre .1 .2), room-zeros (a .q) (laws (a .q) (b .pre .0 .0)) (a .n) (a .d) (a .m .now) (b .pre .0 .1) (b .pre .0 .2) (room f)),
+      (
+        b .pre .0 .0,
+        row-room (a .q) (laws (a .q) (b .pre .0 .0)) (a .n) (a .d) (a .m .now) (b .pre .0 .1) (b .pre .0 .2) (room f),
+        b .pre .0 .1,
+        b .pre .0 .3,
+      ),
+      (
+        (omega (arith, room f, b .pre .1 .0), b .pre .1 .1, b .pre .1 .2),
+        room-zeros (a .q) (laws (a .q) (b .pre .0 .0)) (a .n) (a .d)
+            (a .m .now) (b .pre .0 .1) (b .pre .0 .2) (room f),
+      ),
     )
 
 same-length : tie.Need-same-length
@@ -53,7 +64,8 @@ returns-2 c =
       r .insert-residue .ensures .0,
       (
         r .insert-residue .ensures .1 .0
-            ∙ ap (λ x. padded x (join (insertRow (a .q) (a .n) (rowsOf (a .n) (a .d) (a .m .now)) (a .row .now)))) (held-length (a .q) (laws (a .q) (b .pre .0 .0)) (a .n) (a .d) (a .m .now) (b .pre .0 .1) (b .pre .0 .2)),
+            ∙ ap (λ x. padded x (join (insertRow (a .q) (a .n) (rowsOf (a .n) (a .d) (a .m .now)) (a .row .now))))
+            (held-length (a .q) (laws (a .q) (b .pre .0 .0)) (a .n) (a .d) (a .m .now) (b .pre .0 .1) (b .pre .0 .2)),
         r .insert-residue .ensures .1 .1,
       ),
     )

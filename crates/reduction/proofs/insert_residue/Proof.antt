@@ -1,4 +1,5 @@
--- `reduction::insert_residue` meets its contract: the row is in the span where its residue is zero, and else the residue is scaled and placed.
+-- `reduction::insert_residue` meets its contract: the row is in the span where its residue is zero, and else the residue is scaled and
+-- placed.
 use mathlib.Core.Path.{_≡_, ap, sym, _∙_, subst}
 use mathlib.Core.List.{List, _++_}
 use Prim.Native.Nat.{ℕ, _+_, _*_, _-_, _<_}
@@ -47,7 +48,8 @@ lead-is c =
     let b = r .before .before .before .before .before .before in
     let a = b .args in
     c .lead .ensures
-    ∙ left-lead (a .q) (laws (a .q) (b .pre .0 .0)) (a .n) (a .d) (a .m .now) (b .pre .0 .1) (b .pre .0 .2) (a .row .now) (b .pre .0 .3) (b .pre .1 .1) _ (r .residue .ensures)
+    ∙ left-lead (a .q) (laws (a .q) (b .pre .0 .0)) (a .n) (a .d) (a .m .now) (b .pre .0 .1) (b .pre .0 .2) (a .row .now) (b .pre .0 .3)
+    (b .pre .1 .1) _ (r .residue .ensures)
 
 nonzero : (c : tie.Else1) →
     let a = c .before .before .before .before .before .before .before .before .before .before .before .args in
@@ -61,8 +63,13 @@ below : (c : tie.Else1) →
 below c =
     let b = c .before .before .before .before .before .before .before .before .before .before .before in
     let a = b .args in
-    omega
-    (arith, lead-is (c .before), leadOf-le (a .q) (laws (a .q) (b .pre .0 .0)) (a .n) (residue (a .q) (a .n) (rowsOf (a .n) (a .d) (a .m .now)) (a .row .now)), c .if1 .left)
+    omega (
+      arith,
+      lead-is (c .before),
+      leadOf-le (a .q) (laws (a .q) (b .pre .0 .0)) (a .n)
+          (residue (a .q) (a .n) (rowsOf (a .n) (a .d) (a .m .now)) (a .row .now)),
+      c .if1 .left,
+    )
 
 same-length : tie.Need-same-length
 same-length c = search needs
@@ -75,7 +82,9 @@ returns c =
     let r = c .before .before .before .before .before in
     let b = r .before .before .before .before .before .before in
     let a = b .args in
-    let same = insert-same (a .q) (laws (a .q) (b .pre .0 .0)) (a .n) (a .d) (a .m .now) (b .pre .0 .1) (b .pre .0 .2) (a .row .now) (b .pre .0 .3) (b .pre .1 .1) _ (r .residue .ensures) (sym (lead-is (c .before)) ∙ c .if1 .taken) in
+    let same =
+    insert-same (a .q) (laws (a .q) (b .pre .0 .0)) (a .n) (a .d) (a .m .now) (b .pre .0 .1) (b .pre .0 .2) (a .row .now) (b .pre .0 .3)
+    (b .pre .1 .1) _ (r .residue .ensures) (sym (lead-is (c .before)) ∙ c .if1 .taken) in
     (sym (rows-length (a .n) (a .d) (a .m .now)) ∙ ap length (same .0), (same .1, b .pre .1 .0 .1 ∙ ap (leads (a .n)) (same .0)))
 
 add-monic : tie.Need-add-monic
@@ -100,10 +109,13 @@ monic-requires c κs =
     let k : start + a .n - start ≡ a .n = omega arith in
     let here : take (start + a .n - start) (drop start (r .residue .last .1 .1 .1 .1 .0))
     ≡ residue (a .q) (a .n) (rowsOf (a .n) (a .d) (a .m .now)) (a .row .now) =
-    ap (λ x. take x (drop start (r .residue .last .1 .1 .1 .1 .0))) k ∙ left-part (a .q) (laws (a .q) (b .pre .0 .0)) (a .n) (a .d) (a .m .now) (b .pre .0 .1) (b .pre .0 .2) (a .row .now) (b .pre .0 .3) (b .pre .1 .1) _ (r .residue .ensures)
+    ap (λ x. take x (drop start (r .residue .last .1 .1 .1 .1 .0))) k
+    ∙ left-part (a .q) (laws (a .q) (b .pre .0 .0)) (a .n) (a .d) (a .m .now) (b .pre .0 .1) (b .pre .0 .2) (a .row .now) (b .pre .0 .3)
+    (b .pre .1 .1) _ (r .residue .ensures)
     in (
       b .pre .0 .0,
-      subst (Row (a .q) (a .n)) (sym here) (residue-is-row (a .q) (laws (a .q) (b .pre .0 .0)) (a .n) (a .d) (a .m .now) (b .pre .0 .1) (b .pre .0 .2) (a .row .now) (b .pre .0 .3) (b .pre .1 .1)),
+      subst (Row (a .q) (a .n)) (sym here) (residue-is-row (a .q) (laws (a .q) (b .pre .0 .0)) (a .n) (a .d) (a .m .now) (b .pre .0 .1)
+          (b .pre .0 .2) (a .row .now) (b .pre .0 .3) (b .pre .1 .1)),
       lead-is (f .before) ∙ ap (leadOf (a .n)) (sym here),
       below f,
     )
@@ -120,7 +132,8 @@ scaled c =
     let r = c .before .before .before .before .before .before .before in
     let b = r .before .before .before .before .before .before in
     let a = b .args in
-    scaled-is (a .q) (laws (a .q) (b .pre .0 .0)) (a .n) (a .d) (a .m .now) (b .pre .0 .1) (b .pre .0 .2) (a .row .now) (b .pre .0 .3) (b .pre .1 .1) _ (r .residue .ensures) (a .d * a .n + a .n - a .d * a .n) (omega arith) _ (c .monic .ensures)
+    scaled-is (a .q) (laws (a .q) (b .pre .0 .0)) (a .n) (a .d) (a .m .now) (b .pre .0 .1) (b .pre .0 .2) (a .row .now) (b .pre .0 .3)
+    (b .pre .1 .1) _ (r .residue .ensures) (a .d * a .n + a .n - a .d * a .n) (omega arith) _ (c .monic .ensures)
 
 place-requires : tie.Need-place-requires
 place-requires c κs =
@@ -128,25 +141,33 @@ place-requires c κs =
     let f = s .before .before in
     let b = s .before .before .before .before .before .before .before .before .before .before .before .before .before in
     let a = b .args in
-    let rows = scaled-rows (a .q) (laws (a .q) (b .pre .0 .0)) (a .n) (a .d) (a .m .now) (b .pre .0 .1) (b .pre .0 .2) (a .row .now) (b .pre .0 .3) (b .pre .1 .1) _ (scaled s) in
-    let last = scaled-part (a .q) (laws (a .q) (b .pre .0 .0)) (a .n) (a .d) (a .m .now) (b .pre .0 .1) (b .pre .0 .2) (a .row .now) (b .pre .0 .3) (b .pre .1 .1) _ (scaled s) in
+    let rows =
+    scaled-rows (a .q) (laws (a .q) (b .pre .0 .0)) (a .n) (a .d) (a .m .now) (b .pre .0 .1) (b .pre .0 .2) (a .row .now) (b .pre .0 .3)
+    (b .pre .1 .1) _ (scaled s) in
+    let last =
+    scaled-part (a .q) (laws (a .q) (b .pre .0 .0)) (a .n) (a .d) (a .m .now) (b .pre .0 .1) (b .pre .0 .2) (a .row .now) (b .pre .0 .3)
+    (b .pre .1 .1) _ (scaled s) in
     let size =
     ap length (scaled s)
-    ∙ put-length (a .n) (a .d * a .n) (monic (a .q) (a .n) (residue (a .q) (a .n) (rowsOf (a .n) (a .d) (a .m .now)) (a .row .now))) (a .m .now)
-    (monic-is-row (a .q) (laws (a .q) (b .pre .0 .0)) (a .n) (a .d) (a .m .now) (b .pre .0 .1) (b .pre .0 .2) (a .row .now) (b .pre .0 .3) (b .pre .1 .1) .0) (b .pre .0 .1)
+    ∙ put-length (a .n) (a .d * a .n) (monic (a .q) (a .n) (residue (a .q) (a .n) (rowsOf (a .n) (a .d) (a .m .now)) (a .row .now)))
+    (a .m .now)
+    (monic-is-row (a .q) (laws (a .q) (b .pre .0 .0)) (a .n) (a .d) (a .m .now) (b .pre .0 .1) (b .pre .0 .2) (a .row .now) (b .pre .0 .3)
+    (b .pre .1 .1) .0) (b .pre .0 .1)
     in (
       (
         b .pre .0 .0,
         omega (arith, size, b .pre .0 .1),
         subst (All (Row (a .q) (a .n))) (sym rows) (b .pre .0 .2 .rows),
-        subst (Row (a .q) (a .n)) (sym last) (monic-is-row (a .q) (laws (a .q) (b .pre .0 .0)) (a .n) (a .d) (a .m .now) (b .pre .0 .1) (b .pre .0 .2) (a .row .now) (b .pre .0 .3) (b .pre .1 .1)),
+        subst (Row (a .q) (a .n)) (sym last) (monic-is-row (a .q) (laws (a .q) (b .pre .0 .0)) (a .n) (a .d) (a .m .now) (b .pre .0 .1)
+            (b .pre .0 .2) (a .row .now) (b .pre .0 .3) (b .pre .1 .1)),
       ),
       (
         b .pre .1 .0 .0,
         b .pre .1 .0 .1 ∙ ap (leads (a .n)) (sym rows),
         below f,
         b .pre .1 .0 .2,
-        lead-is (f .before) ∙ scaled-lead (a .q) (laws (a .q) (b .pre .0 .0)) (a .n) (a .d) (a .m .now) (b .pre .0 .1) (b .pre .0 .2) (a .row .now) (b .pre .0 .3) (b .pre .1 .1) _ (scaled s) (nonzero f),
+        lead-is (f .before) ∙ scaled-lead (a .q) (laws (a .q) (b .pre .0 .0)) (a .n) (a .d) (a .m .now) (b .pre .0 .1) (b .pre .0 .2)
+            (a .row .now) (b .pre .0 .3) (b .pre .1 .1) _ (scaled s) (nonzero f),
       ),
     )
 
@@ -166,10 +187,13 @@ returns-2 c =
     let f = s .before .before in
     let b = s .before .before .before .before .before .before .before .before .before .before .before .before .before in
     let a = b .args in (
-      one-more (a .q) (laws (a .q) (b .pre .0 .0)) (a .n) (a .d) (a .m .now) (b .pre .0 .1) (b .pre .0 .2) (a .row .now) (b .pre .0 .3) (b .pre .1 .1) _ (scaled s) (nonzero f),
+      one-more (a .q) (laws (a .q) (b .pre .0 .0)) (a .n) (a .d) (a .m .now) (b .pre .0 .1) (b .pre .0 .2) (a .row .now) (b .pre .0 .3)
+          (b .pre .1 .1) _ (scaled s) (nonzero f),
       (
-        insert-placed (a .q) (laws (a .q) (b .pre .0 .0)) (a .n) (a .d) (a .m .now) (b .pre .0 .1) (b .pre .0 .2) (a .row .now) (b .pre .0 .3) (b .pre .1 .1) _ (scaled s) (nonzero f) _ (p .place .ensures .0),
-        p .place .ensures .1 ∙ ap (leads (a .n)) (placed-result (a .q) (laws (a .q) (b .pre .0 .0)) (a .n) (a .d) (a .m .now) (b .pre .0 .1) (b .pre .0 .2) (a .row .now) (b .pre .0 .3) (b .pre .1 .1) _ (scaled s) (nonzero f)),
+        insert-placed (a .q) (laws (a .q) (b .pre .0 .0)) (a .n) (a .d) (a .m .now) (b .pre .0 .1) (b .pre .0 .2) (a .row .now)
+            (b .pre .0 .3) (b .pre .1 .1) _ (scaled s) (nonzero f) _ (p .place .ensures .0),
+        p .place .ensures .1 ∙ ap (leads (a .n)) (placed-result (a .q) (laws (a .q) (b .pre .0 .0)) (a .n) (a .d) (a .m .now)
+            (b .pre .0 .1) (b .pre .0 .2) (a .row .now) (b .pre .0 .3) (b .pre .1 .1) _ (scaled s) (nonzero f)),
       ),
     )
 

@@ -24,8 +24,12 @@ clear-above-requires c κs =
 inside : (c : tie.After-clear-above) → c .clear-above .result ≤ c .before .before .before .before .before .args .d
 inside c =
     let a = c .before .before .before .before .before .args in
-    omega
-    (arith, c .clear-above .ensures .0, above-le (a .q) (a .n) (part (a .n) (a .d * a .n) (a .m .now)) (rowsOf (a .n) (a .d) (a .m .now)), rows-length (a .n) (a .d) (a .m .now))
+    omega (
+      arith,
+      c .clear-above .ensures .0,
+      above-le (a .q) (a .n) (part (a .n) (a .d * a .n) (a .m .now)) (rowsOf (a .n) (a .d) (a .m .now)),
+      rows-length (a .n) (a .d) (a .m .now),
+    )
 
 raise-requires : tie.Need-raise-requires
 raise-requires c κs =

@@ -47,7 +47,8 @@ loop-again c =
       omega arith,
       omega arith,
       c .before .before .swap .ensures
-          ∙ raised-more (a .n) (a .m .now) (a .d) (l .loop .i) _ next (l .loop .inv .1) (l .before .before .pre .1) (l .loop .m) (l .loop .inv .3),
+          ∙ raised-more (a .n) (a .m .now) (a .d) (l .loop .i) _ next (l .loop .inv .1) (l .before .before .pre .1) (l .loop .m)
+          (l .loop .inv .3),
     )
 
 same-length : tie.Need-same-length Inv-loop μ-loop

@@ -10,7 +10,7 @@ use Rattle.linear.specs.Span.{rowsOf}
 use Rattle.linear.specs.Eliminate.{dimension, reducedRows, reducedOf}
 use Rattle.reduction.specs.Padded.{padded}
 use Rattle.reduction.specs.Steps.{leads}
-use Rattle.reduction.specs.Reducing.{Reducing, reducing-start, reducing-row, reducing-kept, reducing-held, reducing-leads, reducing-more}
+use Rattle.reduction.specs.Reducing.{Reducing, reducing-start, reducing-row, reducing-asks, reducing-more}
 use Rattle.reduction.proofs.reduce.Statement.{statement}
 use Rattle.reduction.proofs.reduce.Tie as tie
 
@@ -49,23 +49,6 @@ part-insert-start c = omega arith
 part-insert-end : tie.Need-part-insert-end Inv-loop μ-loop
 part-insert-end c = omega (arith, fits c)
 
-insert-requires : tie.Need-insert-requires Inv-loop μ-loop
-insert-requires c κs =
-    let t = c .before .before .before in
-    let l = t .before in
-    let b = l .before .before .before .before in
-    let a = b .args in
-    let start : ℕ = l .loop .i * a .n in (
-      (b .pre .0 .0, reducing-kept (a .q) (laws (a .q) (b .pre .0 .0)) (a .n) (a .count) (a .input .now) (b .pre .0 .1) (b .pre .0 .2) (l .loop .i) (t .loop-test .taken) (l .loop .d) (l .loop .m) (l .loop .pivots) (l .loop .inv .3), reducing-held (a .q) (laws (a .q) (b .pre .0 .0)) (a .n) (a .count) (a .input .now) (b .pre .0 .1) (b .pre .0 .2) (l .loop .i) (t .loop-test .taken) (l .loop .d) (l .loop .m) (l .loop .pivots) (l .loop .inv .3), reducing-row (a .q) (laws (a .q) (b .pre .0 .0)) (a .n) (a .count) (a .input .now) (b .pre .0 .1) (b .pre .0 .2) (l .loop .i) (t .loop-test .taken) (start + a .n - start) (omega arith)),
-      (omega (arith, l .loop .inv .2, b .pre .1 .1), reducing-leads (a .q) (laws (a .q) (b .pre .0 .0)) (a .n) (a .count) (a .input .now) (b .pre .0 .1) (b .pre .0 .2) (l .loop .i) (t .loop-test .taken) (l .loop .d) (l .loop .m) (l .loop .pivots) (l .loop .inv .3), b .pre .1 .2),
-    )
-
-add-i : tie.Need-add-i Inv-loop μ-loop
-add-i c = omega arith
-
-loop-less : tie.Need-loop-less Inv-loop μ-loop
-loop-less c = omega arith
-
 loop-again : tie.Need-loop-again Inv-loop μ-loop
 loop-again c =
     let r = c .before .before .before .before in
@@ -79,9 +62,35 @@ loop-again c =
       r .insert .kept .1 .1 .1 .1 .0 ∙ l .loop .inv .1,
       r .insert .kept .1 .1 .1 .1 .1 .0 ∙ l .loop .inv .2,
       rw add-one
-          (reducing-more (a .q) (laws (a .q) (b .pre .0 .0)) (a .n) (a .count) (a .input .now) (b .pre .0 .1) (b .pre .0 .2) (l .loop .i) (t .loop-test .taken) (l .loop .d) (l .loop .m) (l .loop .pivots) (l .loop .inv .3) (r .insert .result) _ _ _ (ap (λ x. take x (drop start (a .input .now))) k) (r .insert .ensures .0)
-          (r .insert .ensures .1 .0) (r .insert .ensures .1 .1)),
+          (reducing-more (a .q) (laws (a .q) (b .pre .0 .0)) (a .n) (a .count) (a .input .now) (b .pre .0 .1) (b .pre .0 .2) (l .loop .i)
+          (t .loop-test .taken) (l .loop .d) (l .loop .m) (l .loop .pivots) (l .loop .inv .3) (r .insert .result) _ _ _
+          (ap (λ x. take x (drop start (a .input .now))) k) (r .insert .ensures .0) (r .insert .ensures .1 .0) (r .insert .ensures .1 .1)),
     )
+
+insert-requires : tie.Need-insert-requires Inv-loop μ-loop
+insert-requires c κs =
+    let t = c .before .before .before in
+    let l = t .before in
+    let b = l .before .before .before .before in
+    let a = b .args in
+    let asks =
+    reducing-asks (a .q) (laws (a .q) (b .pre .0 .0)) (a .n) (a .count) (a .input .now) (b .pre .0 .1) (b .pre .0 .2) (l .loop .i)
+    (t .loop-test .taken) (l .loop .d) (l .loop .m) (l .loop .pivots) (l .loop .inv .3)
+    in
+    let start : ℕ = l .loop .i * a .n in
+    let row =
+    reducing-row (a .q) (laws (a .q) (b .pre .0 .0)) (a .n) (a .count) (a .input .now) (b .pre .0 .1) (b .pre .0 .2) (l .loop .i)
+    (t .loop-test .taken) (start + a .n - start) (omega arith)
+    in (
+      (b .pre .0 .0, asks .0, asks .1, row),
+      (omega (arith, l .loop .inv .2, b .pre .1 .1), asks .2, b .pre .1 .2),
+    )
+
+add-i : tie.Need-add-i Inv-loop μ-loop
+add-i c = omega arith
+
+loop-less : tie.Need-loop-less Inv-loop μ-loop
+loop-less c = omega arith
 
 same-length : tie.Need-same-length Inv-loop μ-loop
 same-length c = c .before .loop .inv .1

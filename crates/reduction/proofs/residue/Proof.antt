@@ -63,7 +63,8 @@ first-lead : (c : tie.Else1 Inv-loop μ-loop) →
 first-lead c =
     let b = c .before .before .before .before in
     let a = b .args in
-    lead-read (a .n) (a .d) (a .m .now) (a .pivots .now) (b .pre .1 .1) 0 (some c) ∙ ap (λ x. leadOf (a .n) (part (a .n) x (a .m .now))) (zero-mul (a .n))
+    lead-read (a .n) (a .d) (a .m .now) (a .pivots .now) (b .pre .1 .1) 0 (some c)
+    ∙ ap (λ x. leadOf (a .n) (part (a .n) x (a .m .now))) (zero-mul (a .n))
 
 first-inside : (c : tie.Else1 Inv-loop μ-loop) → let a = c .before .before .before .before .args in getD (a .pivots .now) 0 0 < a .n
 first-inside c =
@@ -92,7 +93,8 @@ enter-requires c κs =
         b .pre .0 .0,
         first-inside f,
         b .pre .0 .3,
-        first-row (a .q) (laws (a .q) (b .pre .0 .0)) (a .n) (a .d) (a .m .now) (a .row .now) (b .pre .0 .1) (b .pre .0 .2 .rows) (b .pre .0 .3) (some f),
+        first-row (a .q) (laws (a .q) (b .pre .0 .0)) (a .n) (a .d) (a .m .now) (a .row .now) (b .pre .0 .1) (b .pre .0 .2 .rows)
+            (b .pre .0 .3) (some f),
         omega (arith, row-fits 0 (a .d) (a .n) (some f)),
         b .pre .0 .1,
       ),
@@ -105,20 +107,24 @@ loop-holds c =
     let f = e .before .before .before in
     let b = f .before .before .before .before in
     let a = b .args in
-    eliminating-start (a .q) (laws (a .q) (b .pre .0 .0)) (a .n) (a .d) (a .m .now) (a .row .now) (b .pre .0 .1) (b .pre .0 .2 .rows) (b .pre .0 .3) (some f) _ (e .enter .ensures)
+    eliminating-start (a .q) (laws (a .q) (b .pre .0 .0)) (a .n) (a .d) (a .m .now) (a .row .now) (b .pre .0 .1) (b .pre .0 .2 .rows)
+    (b .pre .0 .3) (some f) _ (e .enter .ensures)
 
 -- the matrix once the first row is eliminated
 module _ (c : tie.After-slice-known3 Inv-loop μ-loop) where
   started : List ℕ
   started = c .before .before .enter .last .1 .1 .1 .1 .0
 
-  same-rows : let a = c .before .before .before .before .before .before .before .before .before .args in rowsOf (a .n) (a .d) started ≡ rowsOf (a .n) (a .d) (a .m .now)
+  same-rows : let a =
+      c .before .before .before .before .before .before .before .before .before .args in rowsOf (a .n) (a .d) started
+      ≡ rowsOf (a .n) (a .d) (a .m .now)
   unfolding started
   same-rows =
       let f = c .before .before .before .before .before in
       let b = f .before .before .before .before in
       let a = b .args in
-      started-rows (a .q) (laws (a .q) (b .pre .0 .0)) (a .n) (a .d) (a .m .now) (a .row .now) (b .pre .0 .1) (b .pre .0 .2 .rows) (b .pre .0 .3) (some f) _ (c .before .before .enter .ensures)
+      started-rows (a .q) (laws (a .q) (b .pre .0 .0)) (a .n) (a .d) (a .m .now) (a .row .now) (b .pre .0 .1) (b .pre .0 .2 .rows)
+      (b .pre .0 .3) (some f) _ (c .before .before .enter .ensures)
 
   fits : let a = c .before .before .before .before .before .before .before .before .before .args in a .d * a .n + a .n ≤ length started
   unfolding started
@@ -126,14 +132,18 @@ module _ (c : tie.After-slice-known3 Inv-loop μ-loop) where
       let f = c .before .before .before .before .before in
       let b = f .before .before .before .before in
       let a = b .args in
-      started-fits (a .q) (laws (a .q) (b .pre .0 .0)) (a .n) (a .d) (a .m .now) (a .row .now) (b .pre .0 .1) (b .pre .0 .2 .rows) (b .pre .0 .3) (some f) _ (c .before .before .enter .ensures)
+      started-fits (a .q) (laws (a .q) (b .pre .0 .0)) (a .n) (a .d) (a .m .now) (a .row .now) (b .pre .0 .1) (b .pre .0 .2 .rows)
+      (b .pre .0 .3) (some f) _ (c .before .before .enter .ensures)
 
-  kept : let a = c .before .before .before .before .before .before .before .before .before .args in Kept (a .q) (a .n) (rowsOf (a .n) (a .d) started)
+  kept : let a =
+      c .before .before .before .before .before .before .before .before .before .args in Kept (a .q) (a .n) (rowsOf (a .n) (a .d) started)
   kept =
       let b = c .before .before .before .before .before .before .before .before .before in
       subst (Kept (b .args .q) (b .args .n)) (sym same-rows) (b .pre .0 .2)
 
-  known : let a = c .before .before .before .before .before .before .before .before .before .args in take (a .d) (a .pivots .now) ≡ leads (a .n) (rowsOf (a .n) (a .d) started)
+  known : let a =
+      c .before .before .before .before .before .before .before .before .before .args in take (a .d) (a .pivots .now)
+      ≡ leads (a .n) (rowsOf (a .n) (a .d) started)
   known =
       let b = c .before .before .before .before .before .before .before .before .before in
       b .pre .1 .1 ∙ ap (leads (b .args .n)) (sym same-rows)
@@ -144,17 +154,25 @@ lead-here : (c : tie.In-loop Inv-loop μ-loop) →
     getD (a .pivots .now) (c .before .loop .i) 0 ≡ leadOf (a .n) (part (a .n) (c .before .loop .i * a .n) (started (c .before .before)))
 lead-here c =
     let a = c .before .before .before .before .before .before .before .before .before .before .before .args in
-    lead-read (a .n) (a .d) (started (c .before .before)) (a .pivots .now) (known (c .before .before)) (c .before .loop .i) (c .loop-test .taken)
+    lead-read (a .n) (a .d) (started (c .before .before)) (a .pivots .now) (known (c .before .before)) (c .before .loop .i)
+    (c .loop-test .taken)
 
-inside : (c : tie.In-loop Inv-loop μ-loop) → let a = c .before .before .before .before .before .before .before .before .before .before .before .args in getD (a .pivots .now) (c .before .loop .i) 0 < a .n
+inside : (c : tie.In-loop Inv-loop μ-loop) → let a =
+    c .before .before .before .before .before .before .before .before .before .before .before .args in getD (a .pivots .now)
+    (c .before .loop .i) 0 < a .n
 inside c =
     let a = c .before .before .before .before .before .before .before .before .before .before .before .args in
     subst (λ x. x < a .n) (sym (lead-here c))
     (lead-inside (a .q) (a .n) (a .d) (started (c .before .before)) (kept (c .before .before)) (c .before .loop .i) (c .loop-test .taken))
 
 -- the row ends before row d
-before : (c : tie.In-loop Inv-loop μ-loop) → let a = c .before .before .before .before .before .before .before .before .before .before .before .args in c .before .loop .i * a .n + a .n ≤ a .d * a .n
-before c = let a = c .before .before .before .before .before .before .before .before .before .before .before .args in row-fits (c .before .loop .i) (a .d) (a .n) (c .loop-test .taken)
+before : (c : tie.In-loop Inv-loop μ-loop) → let a =
+    c .before .before .before .before .before .before .before .before .before .before .before .args in
+    c .before .loop .i * a .n + a .n ≤ a .d * a .n
+before c =
+    let a =
+    c .before .before .before .before .before .before .before .before .before .before .before .args in row-fits (c .before .loop .i) (a .d)
+    (a .n) (c .loop-test .taken)
 
 shared-slice-read-eliminate : tie.Need-shared-slice-read-eliminate Inv-loop μ-loop
 shared-slice-read-eliminate c =
@@ -173,7 +191,13 @@ mul-eliminate c =
     let g = l .before in
     let b = g .before .before .before .before .before .before .before .before .before in
     let a = b .args in
-    omega (arith, before t, fits g, eliminating-length (a .q) (laws (a .q) (b .pre .0 .0)) (a .n) (a .d) (started g) (a .row .now) (fits g) (kept g .rows) (l .loop .i) (l .loop .m) (l .loop .inv))
+    omega (
+      arith,
+      before t,
+      fits g,
+      eliminating-length (a .q) (laws (a .q) (b .pre .0 .0)) (a .n) (a .d) (started g) (a .row .now) (fits g)
+          (kept g .rows) (l .loop .i) (l .loop .m) (l .loop .inv),
+    )
 
 eliminate-requires : tie.Need-eliminate-requires Inv-loop μ-loop
 unfolding started
@@ -183,9 +207,20 @@ eliminate-requires c κs =
     let g = l .before in
     let b = g .before .before .before .before .before .before .before .before .before in
     let a = b .args in
-    let size = eliminating-length (a .q) (laws (a .q) (b .pre .0 .0)) (a .n) (a .d) (started g) (a .row .now) (fits g) (kept g .rows) (l .loop .i) (l .loop .m) (l .loop .inv) in
-    let same = eliminating-part (a .q) (laws (a .q) (b .pre .0 .0)) (a .n) (a .d) (started g) (a .row .now) (fits g) (kept g .rows) (l .loop .i) (l .loop .m) (l .loop .inv) (t .loop-test .taken) in (
-      (b .pre .0 .0, inside t, eliminating-row (a .q) (laws (a .q) (b .pre .0 .0)) (a .n) (a .d) (started g) (a .row .now) (fits g) (kept g .rows) (l .loop .i) (l .loop .m) (l .loop .inv) (t .loop-test .taken), l .loop .inv .row, inl (before t)),
+    let size =
+    eliminating-length (a .q) (laws (a .q) (b .pre .0 .0)) (a .n) (a .d) (started g) (a .row .now) (fits g) (kept g .rows) (l .loop .i)
+    (l .loop .m) (l .loop .inv) in
+    let same =
+    eliminating-part (a .q) (laws (a .q) (b .pre .0 .0)) (a .n) (a .d) (started g) (a .row .now) (fits g) (kept g .rows) (l .loop .i)
+    (l .loop .m) (l .loop .inv) (t .loop-test .taken) in (
+      (
+        b .pre .0 .0,
+        inside t,
+        eliminating-row (a .q) (laws (a .q) (b .pre .0 .0)) (a .n) (a .d) (started g) (a .row .now) (fits g)
+            (kept g .rows) (l .loop .i) (l .loop .m) (l .loop .inv) (t .loop-test .taken),
+        l .loop .inv .row,
+        inl (before t),
+      ),
       (omega (arith, before t, size, fits g), omega (arith, size, fits g), lead-here t ∙ ap (leadOf (a .n)) (sym same)),
     )
 
@@ -204,7 +239,8 @@ loop-again c =
     let g = l .before in
     let b = g .before .before .before .before .before .before .before .before .before in
     let a = b .args in
-    rw add-one (eliminating-more (a .q) (laws (a .q) (b .pre .0 .0)) (a .n) (a .d) (started g) (a .row .now) (fits g) (kept g .rows) (l .loop .i) (l .loop .m) (l .loop .inv) (t .loop-test .taken) _ (e .eliminate .ensures))
+    rw add-one (eliminating-more (a .q) (laws (a .q) (b .pre .0 .0)) (a .n) (a .d) (started g) (a .row .now) (fits g) (kept g .rows)
+    (l .loop .i) (l .loop .m) (l .loop .inv) (t .loop-test .taken) _ (e .eliminate .ensures))
 
 same-length-2 : tie.Need-same-length-2 Inv-loop μ-loop
 unfolding started
@@ -213,7 +249,8 @@ same-length-2 c =
     let g = l .before in
     let b = g .before .before .before .before .before .before .before .before .before in
     let a = b .args in
-    eliminating-length (a .q) (laws (a .q) (b .pre .0 .0)) (a .n) (a .d) (started g) (a .row .now) (fits g) (kept g .rows) (l .loop .i) (l .loop .m) (l .loop .inv) ∙ g .before .before .enter .kept .1 .1 .1 .1 .0
+    eliminating-length (a .q) (laws (a .q) (b .pre .0 .0)) (a .n) (a .d) (started g) (a .row .now) (fits g) (kept g .rows) (l .loop .i)
+    (l .loop .m) (l .loop .inv) ∙ g .before .before .enter .kept .1 .1 .1 .1 .0
 
 returns-2 : tie.Need-returns-2 Inv-loop μ-loop
 unfolding started
@@ -223,8 +260,10 @@ returns-2 c =
     let f = g .before .before .before .before .before in
     let b = f .before .before .before .before in
     let a = b .args in
-    eliminating-end (a .q) (laws (a .q) (b .pre .0 .0)) (a .n) (a .d) (started g) (a .row .now) (fits g) (kept g .rows) (l .loop .i) (l .loop .m) (l .loop .inv) (omega (arith, l .loop .inv .within))
-    ∙ started-put (a .q) (laws (a .q) (b .pre .0 .0)) (a .n) (a .d) (a .m .now) (a .row .now) (b .pre .0 .1) (b .pre .0 .2 .rows) (b .pre .0 .3) (some f) _ (g .before .before .enter .ensures)
+    eliminating-end (a .q) (laws (a .q) (b .pre .0 .0)) (a .n) (a .d) (started g) (a .row .now) (fits g) (kept g .rows) (l .loop .i)
+    (l .loop .m) (l .loop .inv) (omega (arith, l .loop .inv .within))
+    ∙ started-put (a .q) (laws (a .q) (b .pre .0 .0)) (a .n) (a .d) (a .m .now) (a .row .now) (b .pre .0 .1) (b .pre .0 .2 .rows)
+    (b .pre .0 .3) (some f) _ (g .before .before .enter .ensures)
     (residue (a .q) (a .n) (rowsOf (a .n) (a .d) (started g)) (a .row .now))
     ∙ ap (λ x. put (a .n) (a .d * a .n) (residue (a .q) (a .n) x (a .row .now)) (a .m .now)) (same-rows g)
 

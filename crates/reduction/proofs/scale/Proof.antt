@@ -30,7 +30,8 @@ old : (c : tie.In-loop Inv-loop μ-loop) →
 old c =
     let l = c .before in
     let a = l .before .before .args in
-    ap (λ x. getD x (l .loop .j) 0) (l .loop .inv .2) ∙ write-read (multipleAt (a .q) (a .c) (a .v .now)) (a .v .now) (l .loop .j) (omega arith)
+    ap (λ x. getD x (l .loop .j) 0) (l .loop .inv .2)
+    ∙ write-read (multipleAt (a .q) (a .c) (a .v .now)) (a .v .now) (l .loop .j) (omega arith)
 
 slice-read-add-product : tie.Need-slice-read-add-product Inv-loop μ-loop
 slice-read-add-product c = omega arith

@@ -60,7 +60,8 @@ loop-again c =
     let j = l .loop .j in (
       omega arith,
       simp length-set (l .loop .inv .1),
-      rw add-one (ap (λ x. set (set x (a .at + j) (getD x (a .at + a .n + j) 0)) (a .at + a .n + j) (getD x (a .at + j) 0)) (l .loop .inv .2)
+      rw add-one (ap (λ x. set (set x (a .at + j) (getD x (a .at + a .n + j) 0)) (a .at + a .n + j) (getD x (a .at + j) 0))
+          (l .loop .inv .2)
           ∙ exchanged-more (a .n) (a .at) (a .m .now) (l .before .pre) j (omega arith)),
     )
 

@@ -7,7 +7,9 @@ use native.Mathlib.Nat.{min-eq-left}
 use native.Mathlib.Omega.{arith}
 use lib.ListN.{length, take, drop, replicate, length-take, length-append}
 use lib.Seq.{take-at}
-use Rattle.matrix.specs.Matrix.{Reduced}
+use Rattle.basics.specs.Choice.{pick}
+use Rattle.matrix.specs.Matrix.{identifying, Reduced}
+use Rattle.matrix.specs.Decided.{reduced-true}
 use Rattle.extended.specs.Ranked.{drawnExtended}
 use Rattle.ferrers.specs.Ferrers.{ferrersIndex}
 use Rattle.text.specs.Text.{comma, lineFeed, numeral}
@@ -114,16 +116,16 @@ array-share-prefix-entries : tie.Need-array-share-prefix-entries
 unfolding zeros
 array-share-prefix-entries c = rw (length-append _ (drop _ zeros)) (omega (arith, filled (c .before)))
 
-slice-aggregate-identifying : tie.Need-slice-aggregate-identifying
+slice-aggregate-reduced-vector : tie.Need-slice-aggregate-reduced-vector
 unfolding zeros
-slice-aggregate-identifying c = sized (c .before .before)
+slice-aggregate-reduced-vector c = sized (c .before .before)
 
-identifying-requires : tie.Need-identifying-requires
+reduced-vector-requires : tie.Need-reduced-vector-requires
 unfolding zeros
-identifying-requires c κs =
+reduced-vector-requires c κs =
     let f = c .before .before in
     let s = f .before .before .before in
-    (s .pre .0 .settings .narrow, (s .args .q, reduced f))
+    (s .pre .0 .settings .narrow, reduced f .size)
 
 array-share-prefix-entries-2 : tie.Need-array-share-prefix-entries-2
 unfolding zeros
@@ -138,7 +140,10 @@ unfolding zeros
 rank-requires c κs =
     let v = c .before in
     let f = v .before .before .before in
-    (f .before .before .before .pre .0 .settings, reduced f, v .identifying .ensures)
+    let a = f .before .before .before .args in
+    let m = take (a .k * a .n) (f .unrank .last .0 ++ drop (a .k * a .n) zeros) in
+    let told = v .reduced-vector .ensures .1 ∙ ap (λ b. pick b (identifying (a .n) (a .k) m) 0) (reduced-true (reduced f)) in
+    (f .before .before .before .pre .0 .settings, reduced f, told)
 
 put-space-requires : tie.Need-put-space-requires
 unfolding zeros
@@ -174,8 +179,8 @@ write-space-spec =
     slice-aggregate-unrank
     unrank-requires
     array-share-prefix-entries
-    slice-aggregate-identifying
-    identifying-requires
+    slice-aggregate-reduced-vector
+    reduced-vector-requires
     array-share-prefix-entries-2
     slice-aggregate-rank
     rank-requires

@@ -1,7 +1,9 @@
 -- `receiver::Receiver::take` meets its contract: a refusal hands the receiver back, and what is not refused is taken in.
 use mathlib.Core.Path.{_≡_, _∙_, ap, sym}
+use Rattle.basics.specs.Choice.{pick}
 use Rattle.refusal.specs.laws.First.{kept, done}
-use Rattle.receiver.specs.Receiver.{takeRefusal, takeOf}
+use Rattle.matrix.specs.Matrix.{identifying}
+use Rattle.receiver.specs.Receiver.{used, takeRefusal, takeOf}
 use Rattle.receiver.specs.laws.TakeAccepted.{take-accepted, take-told}
 use Rattle.receiver.specs.declared.Taken.{Taken}
 use Rattle.receiver.specs.declared.TakeAnswer.the-variants.{Refused}
@@ -24,7 +26,11 @@ returns c =
     (e, take-told _ _ _ e .0, take-told _ _ _ e .1)
 
 taken-in-requires : tie.Need-taken-in-requires
-taken-in-requires c κs = take-accepted _ _ (unrefused c)
+taken-in-requires c κs =
+    let granted = take-accepted _ _ (unrefused c) in
+    let r = c .before .before .before .before .args .self in
+    let known = ap (λ x. pick x (identifying (r .n) (r .dimension) (used r)) 0) (granted .formed) in
+    (granted, c .before .before .take-refusal .ensures .1 ∙ known)
 
 returns-2 : tie.Need-returns-2
 unfolding takeOf
