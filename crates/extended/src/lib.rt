@@ -7,7 +7,7 @@ ghost use Rattle.matrix.specs.Matrix.{identifying, Reduced};
 ghost use Rattle.counts.specs.Gaussian.{gaussian};
 ghost use Rattle.settings.specs.laws.Accepted.{Accepted};
 ghost use Rattle.extended.specs.Extended.{extendedTerm, extendedIndex};
-ghost use Rattle.extended.specs.Ranked.{drawnExtended};
+ghost use Rattle.extended.specs.Drawn.{drawnExtended};
 
 // An index of the extended numbering; it never stands for a Ferrers index.
 pub struct ExtendedIndex(pub u64);

@@ -5,15 +5,16 @@ use Prim.Native.Nat.{ℕ, _+_, _*_, _-_, _<_, _≤_, _/_, _%_}
 use native.Mathlib.Omega.{arith}
 use borrow.Author.Tests.{le-leb}
 use lib.ListN.{getD, length}
-use Rattle.basics.specs.Ragged.{ragged, ragged-at}
+use Rattle.basics.specs.laws.Ragged.{ragged, ragged-at}
 use Rattle.basics.specs.Sum.{sum}
-use Rattle.basics.specs.Test.{every, equal, below}
-use Rattle.basics.specs.Table.{tabulate, table-at}
-use Rattle.basics.specs.TableSize.{tabulate-length}
+use Rattle.basics.specs.laws.Test.{every, equal, below}
+use Rattle.basics.specs.Table.{tabulate}
+use Rattle.basics.specs.laws.Table.{table-at}
+use Rattle.basics.specs.laws.TableSize.{tabulate-length}
 use Rattle.counts.specs.laws.Halves.{halfPlace, half-below}
-use Rattle.ferrers.specs.Ranked.{boxCount}
-use Rattle.ferrers.specs.BoxTable.{boxRow, boxSize, boxTable, level, nextRows, addRows, shifted, level-at}
-use Rattle.ferrers.specs.Packed.{keptCounts, packFour, words, begins, boxBegin, readBox}
+use Rattle.ferrers.specs.Drawn.{boxCount}
+use Rattle.ferrers.specs.laws.BoxTable.{boxRow, boxSize, boxTable, level, nextRows, addRows, shifted, level-at}
+use Rattle.ferrers.specs.laws.PackedCounts.{keptCounts, packFour, words, begins, boxBegin, readBox}
 
 -- each row has its length, by one computed test
 rows-sized : (t : ℕ) → t < 289 → length (boxRow t) ≡ boxSize t

@@ -9,11 +9,11 @@ ghost use Rattle.settings.specs.laws.Accepted.{Accepted};
 ghost use Rattle.matrix.specs.Matrix.{identifying, Reduced};
 ghost use Rattle.matrix.specs.Shape.{Shape, cell, flatten};
 ghost use Rattle.ferrers.specs.Ferrers.{size, diagram, diagramPlace, tableauValue, largerDiagrams, ferrersIndex};
-ghost use Rattle.ferrers.specs.Ranked.{boxCount, freeCount, drawnFerrers};
-ghost use Rattle.ferrers.specs.Packed.{packed as packedCount, boxBegin};
-ghost use Rattle.ferrers.specs.Searching.{Found};
-ghost use Rattle.ferrers.specs.DiagramVector.{diagramVector};
-ghost use Rattle.ferrers.specs.Unranking.{Shaped};
+ghost use Rattle.ferrers.specs.Drawn.{boxCount, freeCount, drawnFerrers};
+ghost use Rattle.ferrers.specs.laws.PackedCounts.{packed as packedCount, boxBegin};
+ghost use Rattle.ferrers.specs.laws.FindSize.{Found};
+ghost use Rattle.ferrers.specs.laws.VectorAt.{diagramVector};
+ghost use Rattle.ferrers.specs.laws.WriteMatrix.{Shaped};
 
 // An index of the Ferrers numbering; it never stands for an extended index.
 pub struct FerrersIndex(pub u64);

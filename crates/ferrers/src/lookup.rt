@@ -2,7 +2,7 @@
 // stack. Made by tools/tables.
 ghost use mathlib.Core.Path.{_≡_};
 ghost use lib.ListN.{getD};
-ghost use Rattle.ferrers.specs.Packed.{words, begins};
+ghost use Rattle.ferrers.specs.laws.PackedCounts.{words, begins};
 
 // Four partition counts of sixteen bits each, the first lowest.
 pub fn word(at: u64) -> u64

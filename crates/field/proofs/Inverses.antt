@@ -9,12 +9,13 @@ use borrow.Author.Tests.{lt-ltb}
 use lib.Dec.{T, eqb}
 use lib.ListN.{getD}
 use Rattle.basics.specs.Choice.{pick}
-use Rattle.basics.specs.Test.{below, always, _⊛_}
-use Rattle.basics.specs.Member.{position, position-below, position-at, position-none, forEach}
-use Rattle.basics.specs.Table.{table-at}
-use Rattle.field.specs.Field.{fieldSizes, isFieldSize, orZero, multiply, inverseFrom, invert}
-use Rattle.field.specs.Inverses.{inverseBelow, entry, inverses}
-use Rattle.field.specs.InField.{in-field}
+use Rattle.basics.specs.laws.Test.{below, always, _⊛_}
+use Rattle.basics.specs.laws.Member.{position, position-below, position-at, position-none, forEach}
+use Rattle.basics.specs.laws.Table.{table-at}
+use Rattle.field.specs.Field.{fieldSizes, isFieldSize, multiply, inverseFrom, invert}
+use Rattle.field.specs.laws.Field.{orZero}
+use Rattle.field.specs.laws.Inverses.{inverseBelow, entry, inverses}
+use Rattle.field.specs.laws.InField.{in-field}
 use Rattle.field.proofs.Sizes.{size-or-none}
 
 size-small : (q : ℕ) → T (isFieldSize q) → (0 < q) × (q < 8)

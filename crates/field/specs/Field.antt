@@ -3,7 +3,6 @@
 --   isFieldSize q   == the test that q is one of them
 --   add q a b, multiply q a b, negate q a == sum, product and negative
 --   invert q a      == the least number below q whose product with a is 1; 0 where there is none
---   orZero q x      == x where q is a field size, else 0: what the code answers for every q
 -- Assumes nothing.
 use mathlib.Core.Bool.{Bool}
 use mathlib.Core.List.{List, [], _∷_}
@@ -34,6 +33,3 @@ inverseFrom q a b (suc left) = pick (eqb (multiply q a b) 1) b (inverseFrom q a 
 
 unfoldable pub invert : ℕ → ℕ → ℕ
 invert q a = inverseFrom q a 0 q
-
-abbrev pub orZero : ℕ → ℕ → ℕ
-orZero q x = pick (isFieldSize q) x 0

@@ -4,9 +4,10 @@ ghost use mathlib.Core.Path.{_≡_};
 ghost use Prim.Native.Nat.{_+_, _/_, _%_, _<_};
 ghost use lib.Dec.{T};
 ghost use lib.ListN.{getD};
-ghost use Rattle.basics.specs.Member.{position};
-ghost use Rattle.field.specs.Inverses.{inverses};
-ghost use Rattle.field.specs.Field.{fieldSizes, isFieldSize, orZero};
+ghost use Rattle.basics.specs.laws.Member.{position};
+ghost use Rattle.field.specs.laws.Inverses.{inverses};
+ghost use Rattle.field.specs.Field.{fieldSizes, isFieldSize};
+ghost use Rattle.field.specs.laws.Field.{orZero};
 ghost use Rattle.field.specs.Field.{add as sum, multiply as product, negate as negative, invert as inverse};
 
 // The place of q's part in a table with a part for each field size; 4 where q is none.

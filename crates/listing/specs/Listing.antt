@@ -16,7 +16,7 @@ use lib.Dec.{leb, eqb}
 use Rattle.refusal.specs.Refusal.{lineRefusal, listingRefusal, refuseUnless, first}
 use Rattle.counts.specs.Gaussian.{gaussian}
 use Rattle.settings.specs.Settings.{settingsRefusal}
-use Rattle.extended.specs.Ranked.{drawnExtended}
+use Rattle.extended.specs.Drawn.{drawnExtended}
 use Rattle.ferrers.specs.Ferrers.{ferrersIndex}
 use Rattle.text.specs.Text.{comma, lineFeed, numeral}
 use Rattle.settings_line.specs.SettingsLine.{parsed}

@@ -1,26 +1,4 @@
 -- matrix: a matrix as bytes, what it is to be reduced, and its peeled shape.
 pub mod Matrix
-pub mod Decided
-pub mod Lead
-pub mod LeadSearch
-pub mod Above
 pub mod Shape
-pub mod TopValue
-pub mod Written
-pub mod Flatten
-pub mod Corner
-pub mod Peel
-pub mod ShapeLaws
-pub mod Cell
-pub mod Shaped
-pub mod Located
-pub mod Column
-pub mod Drawing
-pub mod Values
-pub mod Vector
-pub mod VectorRows
-pub mod Bits
-pub mod Pivots
-pub mod Gathered
-pub mod BitSum
-pub mod Walk
+pub mod laws

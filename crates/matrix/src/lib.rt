@@ -7,10 +7,10 @@ ghost use lib.Dec.{eqb};
 ghost use lib.ListN.{length, getD, replicate};
 ghost use Rattle.basics.specs.Choice.{pick};
 ghost use Rattle.matrix.specs.Matrix.{entry, lead as leadOf, pivot, entriesBelow, isReduced, Reduced, identifying as vectorOf};
-ghost use Rattle.matrix.specs.Shape.{topValue};
-ghost use Rattle.matrix.specs.Written.{digitAt, unitAt, Blank, Written};
-ghost use Rattle.matrix.specs.Decided.{pivotOf};
-ghost use Rattle.matrix.specs.Above.{rowsAbove, rowAbove};
+ghost use Rattle.matrix.specs.laws.Shape.{topValue};
+ghost use Rattle.matrix.specs.laws.WriteColumn.{digitAt, unitAt, Blank, Written};
+ghost use Rattle.matrix.specs.laws.Tests.{pivotOf};
+ghost use Rattle.matrix.specs.laws.RowReduced.{rowsAbove, rowAbove};
 
 // The place, counted from `start`, of the first nonzero byte among the n bytes from there on; n where there is none.
 pub fn lead(m: &[u8], start: usize, n: usize) -> usize

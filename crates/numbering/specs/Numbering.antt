@@ -17,9 +17,9 @@ use Rattle.basics.specs.Choice.{pick}
 use Rattle.refusal.specs.Refusal.{numberingRefusal, refuseUnless, first}
 use Rattle.settings.specs.Settings.{settingsRefusal}
 use Rattle.extended.specs.Extended.{extendedIndex, extendedBefore}
-use Rattle.extended.specs.Ranked.{drawnExtended}
+use Rattle.extended.specs.Drawn.{drawnExtended}
 use Rattle.ferrers.specs.Ferrers.{ferrersIndex, ferrersBefore}
-use Rattle.ferrers.specs.Ranked.{drawnFerrers}
+use Rattle.ferrers.specs.Drawn.{drawnFerrers}
 use Rattle.numbering.specs.declared.Index.{Index}
 use Rattle.numbering.specs.declared.Index.the-variants.{Extended, Ferrers}
 

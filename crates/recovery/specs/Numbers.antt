@@ -18,7 +18,7 @@ use Rattle.settings.specs.Settings.{settingsRefusal}
 use Rattle.matrix.specs.Matrix.{Reduced}
 use Rattle.linear.specs.Span.{All, Row, SameSpan, rowsOf}
 use Rattle.linear.specs.Eliminate.{join, reducedOf, dimension}
-use Rattle.linear.specs.ReducedOf.{reducedOf-unique}
+use Rattle.linear.specs.laws.ReducedOf.{reducedOf-unique}
 use Rattle.numbering.specs.Numbering.{isNumbering, numberingOf, indexOf, drawn, indexIn}
 use Rattle.numbering.specs.laws.Chosen.{unrefused}
 use Rattle.numbering.specs.laws.Either.{Orderly, either}
@@ -37,7 +37,7 @@ use Rattle.recovery.specs.Calls.{Call, begun, after, accepted}
 use Rattle.recovery.specs.Demand.{Buffer}
 use Rattle.recovery.specs.Theorem.{leaves}
 use Rattle.recovery.specs.laws.After.{accepted-rows}
-use Rattle.recovery.specs.laws.Recovered.{receive-rows, exported-rows, close-after}
+use Rattle.recovery.specs.laws.RecoverRows.{receive-rows, exported-rows, close-after}
 use Rattle.receiver.specs.laws.Held.{settings-laws}
 
 pub record Numbers (q n k t : ℕ) : Type 0 where

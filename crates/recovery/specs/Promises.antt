@@ -12,12 +12,12 @@ use Prim.Native.Nat.{ℕ, _*_, _-_, _≤_, _<_}
 use native.Mathlib.Omega.{arith}
 use lib.ListN.{length, replicate}
 use Rattle.refusal.specs.laws.First.{done}
-use Rattle.field.specs.Decide.{laws}
+use Rattle.field.specs.laws.Decide.{laws}
 use Rattle.settings.specs.Settings.{settingsRefusal}
 use Rattle.matrix.specs.Matrix.{Reduced}
 use Rattle.linear.specs.Span.{All, Row, SameSpan, rowsOf, HasDimension}
 use Rattle.linear.specs.Eliminate.{join, reducedOf, dimension}
-use Rattle.linear.specs.ReducedOf.{reducedOf-reduced, reducedOf-span, dimension-has}
+use Rattle.linear.specs.laws.ReducedOf.{reducedOf-reduced, reducedOf-span, dimension-has}
 use Rattle.reduction.specs.Padded.{padded}
 use Rattle.numbering.specs.Numbering.{isNumbering}
 use Rattle.reduce.specs.Reduce.{mostRows, reduceRefusal, reduceOf, reduceBuffer, reductionDimension}
@@ -33,7 +33,7 @@ use Rattle.pandrwyg.specs.laws.ExportedAccepted.{exported-receive}
 use Rattle.recovery.specs.Calls.{Call, begun, after, accepted}
 use Rattle.recovery.specs.Demand.{told}
 use Rattle.recovery.specs.laws.After.{accepted-rows}
-use Rattle.recovery.specs.laws.Recovered.{receive-rows, close-after}
+use Rattle.recovery.specs.laws.RecoverRows.{receive-rows, close-after}
 
 pub reduce-spans : (q n r : ℕ) (input output : List ℕ) → reduceRefusal q n r input (length output) ≡ 0
     → (d : ℕ) × (m : List ℕ)

@@ -21,7 +21,7 @@ use Rattle.reduce.specs.Reduce.{mostRows}
 use Rattle.recovery.specs.Calls.{Call, begun, accepted}
 use Rattle.recovery.specs.Demand.{Buffer, Listing, Recovery, Reception, Demand}
 use Rattle.recovery.specs.laws.After.{accepted-fits, unforged}
-use Rattle.recovery.specs.laws.Recovered.{recovered, received}
+use Rattle.recovery.specs.laws.RecoverRows.{recovered, received}
 
 module _ (q n k t : ℕ) (settings : settingsRefusal q n k ≡ 0) (known : isNumbering t ≡ true) where
   draws : (i : ℕ) → i < gaussian q n k → (b : List ℕ) → Buffer n k b → drawRefusal q n k t i (length b) ≡ 0

@@ -1,10 +1,10 @@
 -- Lemmas; no part of the meaning.
-pub mod Fitting
-pub mod Holding
+pub mod FittingRows
+pub mod HoldRows
 pub mod Course
 pub mod After
-pub mod Reached
+pub mod Reachable
 pub mod Space
 pub mod LittleEndian
-pub mod Recovered
+pub mod RecoverRows
 pub mod Whole

@@ -8,9 +8,9 @@ ghost use Rattle.field.specs.Field.{isFieldSize};
 ghost use Rattle.linear.specs.Span.{All, Row, rowsOf};
 ghost use Rattle.linear.specs.Eliminate.{leadOf, eliminate as eliminated, residue as residueOf, monic as monicOf, place as placed};
 ghost use Rattle.linear.specs.Eliminate.{insertRow, join, reducedRows, reducedOf, dimension};
-ghost use Rattle.linear.specs.InsertMany.{Kept};
+ghost use Rattle.linear.specs.laws.InsertMany.{Kept};
 ghost use Rattle.reduction.specs.Padded.{padded};
-ghost use Rattle.reduction.specs.Steps.{part, put, Apart, plusMultiple, multiple, leads, above, cleared, swapped, raised};
+ghost use Rattle.reduction.specs.laws.Steps.{part, put, Apart, plusMultiple, multiple, leads, above, cleared, swapped, raised};
 
 // Adds c times the row at `from` to the row at `to`.
 fn add_scaled(q: u64, n: usize, c: u8, m: &mut [u8], from: usize, to: usize)

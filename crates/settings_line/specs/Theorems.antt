@@ -15,7 +15,7 @@ use lib.Dec.{eqb}
 use lib.ListN.{length, take, drop, length-append, length-drop}
 use lib.Seq.{take-all, drop-length, length-take-le}
 use Rattle.basics.specs.Choice.{pick}
-use Rattle.basics.specs.Order.{le-or-lt}
+use Rattle.basics.specs.laws.Order.{le-or-lt}
 use Rattle.text.specs.Text.{comma, lineFeed, numeral}
 use Rattle.text.specs.laws.Numeral.{numeral-length}
 use Rattle.settings_line.specs.Decimal.{isDigit, fieldAt}

@@ -17,12 +17,15 @@ use Rattle.counts.specs.Gaussian.{gaussian}
 use Rattle.settings.specs.Settings.{rowLengthOk, shapeOk, countOk, settingsRefusal, countOf}
 use Rattle.field.specs.Field.{isFieldSize, add, multiply, negate, inverseFrom, invert}
 use Rattle.matrix.specs.Matrix.{leadFrom, lead, pivotAt, identifying, columnValue, entriesBelow, columnAlone, rowReduced, isReduced}
-use Rattle.matrix.specs.Shape.{topValue, cell, flatten}
+use Rattle.matrix.specs.Shape.{cell, flatten}
+use Rattle.matrix.specs.laws.Shape.{topValue}
 use Rattle.extended.specs.Extended.{ones, extendedTermAt, extendedTerm, extendedIndex, extendedColumn, extendedBefore}
-use Rattle.extended.specs.Ranked.{extendedRank, extendedShape, drawnExtended}
+use Rattle.extended.specs.Drawn.{extendedShape, drawnExtended}
+use Rattle.extended.specs.laws.ShapeRank.{extendedRank}
 use Rattle.ferrers.specs.Partitions.{partitionsRow, partitions}
 use Rattle.ferrers.specs.Ferrers.{freeFrom, freeColumns, dots, diagram, total, size, dottedFrom, tableauOf, tableau, tableauValue, diagramTerm, diagramPlace, largerDiagrams, ferrersIndex}
-use Rattle.ferrers.specs.Ranked.{shapeSize, boxCount, shapePlace, shapeTableau, ferrersRank, diagramShape, sizedShape, ferrersShape, drawnFerrers}
+use Rattle.ferrers.specs.Drawn.{boxCount, diagramShape, sizedShape, ferrersShape, drawnFerrers}
+use Rattle.ferrers.specs.laws.ShapeRank.{shapeSize, shapePlace, shapeTableau, ferrersRank}
 use Rattle.linear.specs.Eliminate.{leadOf, eliminate, residue, monic, place, insertResidue, insertRow, insertRows, reducedRows, join, reducedOf, dimension}
 use Rattle.linear.specs.Span.{combinationAt, combination, InSpan, SameSpan, rowsOf, HasDimension}
 use Rattle.refusal.specs.Refusal.{refuseUnless, first, unlessRefused}

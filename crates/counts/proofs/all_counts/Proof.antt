@@ -1,6 +1,6 @@
 -- `counts::all_counts` meets its contract: formula (4) and the too-large case, by one computed test over the table.
 use Rattle.basics.specs.Table.{tabulate}
-use Rattle.basics.specs.Test.{equalLists}
+use Rattle.basics.specs.laws.Test.{equalLists}
 use Rattle.counts.specs.Gaussian.{gaussian, entry, counts}
 use Rattle.counts.proofs.all_counts.Statement.{statement}
 use Rattle.counts.proofs.all_counts.Tie as tie

@@ -3,7 +3,7 @@ use mathlib.Core.Path.{_≡_, ap₂, _∙_}
 use Prim.Native.Nat.{_*_, _^_}
 use native.Mathlib.Nat.{le-trans}
 use native.Mathlib.Omega.{arith}
-use Rattle.field.specs.Small.{size-small}
+use Rattle.field.specs.laws.Small.{size-small}
 use Rattle.counts.specs.Gaussian.{gaussian}
 use Rattle.counts.specs.laws.GaussianLaws.{gaussian-free-le, gaussian-longer-le}
 use Rattle.counts.specs.laws.Powers.{power-small}

@@ -7,7 +7,7 @@ use lib.ListN.{getD}
 use lib.Pow.{shl-exact}
 use lib.Dec.{lit<}
 use Rattle.basics.specs.Sum.{sum}
-use Rattle.field.specs.Small.{last-size}
+use Rattle.field.specs.laws.Small.{last-size}
 use Rattle.counts.specs.Gaussian.{greatestCount}
 use Rattle.counts.specs.laws.Powers.{powers, powerBase, powerCount, power-at, exponent-below}
 use borrow.Author.Needs.{needs}

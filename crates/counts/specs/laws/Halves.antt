@@ -11,12 +11,13 @@ use native.Mathlib.Nat.{mul-le-mul}
 use native.Mathlib.Omega.{arith}
 use lib.Dec.{T}
 use lib.ListN.{length, getD}
-use Rattle.basics.specs.Member.{position, position-below, position-at}
-use Rattle.basics.specs.Ragged.{ragged, ragged-at}
+use Rattle.basics.specs.laws.Member.{position, position-below, position-at}
+use Rattle.basics.specs.laws.Ragged.{ragged, ragged-at}
 use Rattle.basics.specs.Sum.{sum}
-use Rattle.basics.specs.Table.{tabulate, table-at}
-use Rattle.basics.specs.TableSize.{tabulate-length}
-use Rattle.basics.specs.Test.{every, equal}
+use Rattle.basics.specs.Table.{tabulate}
+use Rattle.basics.specs.laws.Table.{table-at}
+use Rattle.basics.specs.laws.TableSize.{tabulate-length}
+use Rattle.basics.specs.laws.Test.{every, equal}
 use Rattle.field.specs.Field.{fieldSizes, isFieldSize}
 use Rattle.counts.specs.Gaussian.{tableEntry, capped, entry}
 use Rattle.counts.specs.laws.GaussianLaws.{gaussian-symmetric}

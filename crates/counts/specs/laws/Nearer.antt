@@ -10,7 +10,7 @@ use native.Mathlib.Omega.{arith}
 use borrow.Author.Tests.{le-leb, lt-leb}
 use lib.Dec.{leb}
 use Rattle.basics.specs.Choice.{pick}
-use Rattle.basics.specs.Order.{le-or-lt}
+use Rattle.basics.specs.laws.Order.{le-or-lt}
 
 abbrev pub nearer : ℕ → ℕ → ℕ
 nearer limit m = pick (leb m (limit - m)) m (limit - m)

@@ -13,11 +13,12 @@ use native.Mathlib.Nat.{pow-le-pow-left, pow-le-pow-right, le-trans, le-of-lt}
 use native.Mathlib.Omega.{arith}
 use lib.Dec.{lit<}
 use lib.ListN.{getD}
-use Rattle.basics.specs.Order.{le-or-lt}
-use Rattle.basics.specs.Ragged.{ragged, ragged-at}
+use Rattle.basics.specs.laws.Order.{le-or-lt}
+use Rattle.basics.specs.laws.Ragged.{ragged, ragged-at}
 use Rattle.basics.specs.Sum.{sum}
-use Rattle.basics.specs.Table.{tabulate, table-at}
-use Rattle.basics.specs.TableSize.{tabulate-length}
+use Rattle.basics.specs.Table.{tabulate}
+use Rattle.basics.specs.laws.Table.{table-at}
+use Rattle.basics.specs.laws.TableSize.{tabulate-length}
 use Rattle.field.specs.Field.{fieldSizes}
 use Rattle.counts.specs.Gaussian.{greatestCount}
 

@@ -4,11 +4,11 @@ use Prim.Native.Nat.{_-_, _*_}
 use native.Mathlib.Nat.{zero-mul, zero-add}
 use native.Mathlib.Omega.{arith}
 use borrow.Author.Needs.{needs}
-use Rattle.field.specs.Small.{size-small}
+use Rattle.field.specs.laws.Small.{size-small}
 use Rattle.matrix.specs.Matrix.{pivotAt}
 use Rattle.extended.specs.Extended.{ones}
-use Rattle.extended.specs.VectorBits.{vector-ones, vector-pivot}
-use Rattle.extended.specs.Terms.{Term, term-of, term-within, top-asked, term-entry}
+use Rattle.extended.specs.laws.VectorBits.{vector-ones, vector-pivot}
+use Rattle.extended.specs.laws.ColumnTerm.{Term, term-of, term-within, top-asked, term-entry}
 use Rattle.extended.proofs.column_term.Statement.{statement}
 use Rattle.extended.proofs.column_term.Tie as tie
 

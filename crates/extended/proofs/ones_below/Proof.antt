@@ -2,7 +2,7 @@
 use native.Mathlib.Omega.{arith}
 use lib.Pow.{pow-pos}
 use borrow.Author.Needs.{needs}
-use Rattle.matrix.specs.Bits.{shifted-one, masked-ones, ones-below}
+use Rattle.matrix.specs.laws.Bits.{shifted-one, masked-ones, ones-below}
 use Rattle.extended.proofs.ones_below.Statement.{statement}
 use Rattle.extended.proofs.ones_below.Tie as tie
 

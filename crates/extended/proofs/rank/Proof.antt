@@ -4,9 +4,9 @@ use Prim.Native.Nat.{suc, _+_, _-_, _≤_}
 use native.Mathlib.Numerals.{add-one}
 use native.Mathlib.Omega.{arith}
 use Rattle.basics.specs.Sum.{sum}
-use Rattle.field.specs.Small.{size-small}
+use Rattle.field.specs.laws.Small.{size-small}
 use Rattle.extended.specs.Extended.{extendedTerm, extendedIndex}
-use Rattle.extended.specs.Terms.{terms-within}
+use Rattle.extended.specs.laws.ColumnTerm.{terms-within}
 use Rattle.extended.proofs.rank.Statement.{statement}
 use Rattle.extended.proofs.rank.Tie as tie
 

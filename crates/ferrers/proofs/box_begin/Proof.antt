@@ -1,7 +1,7 @@
 -- `ferrers::box_begin` meets its contract: the look-up at the place of the box.
 use mathlib.Core.Path.{_∙_, ap}
 use lib.ListN.{getD}
-use Rattle.ferrers.specs.Packed.{begins}
+use Rattle.ferrers.specs.laws.PackedCounts.{begins}
 use borrow.Author.Needs.{needs}
 use Rattle.ferrers.proofs.box_begin.Statement.{statement}
 use Rattle.ferrers.proofs.box_begin.Tie as tie

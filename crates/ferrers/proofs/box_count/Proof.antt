@@ -1,8 +1,8 @@
 -- `ferrers::box_count` meets its contract: beyond the box there is no diagram.
 use mathlib.Core.Path.{sym}
 use native.Mathlib.Omega.{arith}
-use Rattle.ferrers.specs.Box.{box-beyond, box-limit}
-use Rattle.ferrers.specs.Weights.{size-short}
+use Rattle.ferrers.specs.laws.Box.{box-beyond, box-limit}
+use Rattle.ferrers.specs.laws.Weight.{size-short}
 use borrow.Author.Needs.{needs}
 use Rattle.ferrers.proofs.box_count.Statement.{statement}
 use Rattle.ferrers.proofs.box_count.Tie as tie

@@ -3,8 +3,8 @@ use mathlib.Core.Path.{ap, ap₂, _∙_, subst}
 use Prim.Native.Nat.{_+_, _≤_}
 use native.Mathlib.Omega.{arith}
 use Rattle.counts.specs.laws.Nearer.{nearer, nearer-twice}
-use Rattle.ferrers.specs.Packed.{packed}
-use Rattle.ferrers.specs.Weights.{size-short}
+use Rattle.ferrers.specs.laws.PackedCounts.{packed}
+use Rattle.ferrers.specs.laws.Weight.{size-short}
 use Rattle.ferrers.proofs.Tables.{begin-below, box-at}
 use borrow.Author.Needs.{needs}
 use Rattle.ferrers.proofs.box_entry.Statement.{statement}

@@ -1,8 +1,8 @@
 -- `ferrers::find_size` meets its contract: the rest is the index among the matrices of at most m dots, and their shapes are found by size.
 use mathlib.Core.Path.{refl}
 use native.Mathlib.Omega.{arith}
-use Rattle.ferrers.specs.Searching.{Searching, searching-start, searching-found, searching-next, searching-end}
-use Rattle.ferrers.specs.Weights.{size-short}
+use Rattle.ferrers.specs.laws.FindSize.{Searching, searching-start, searching-found, searching-next, searching-end}
+use Rattle.ferrers.specs.laws.Weight.{size-short}
 use Rattle.ferrers.proofs.find_size.Statement.{statement}
 use Rattle.ferrers.proofs.find_size.Tie as tie
 

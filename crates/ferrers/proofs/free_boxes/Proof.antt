@@ -1,8 +1,8 @@
 -- `ferrers::free_boxes` meets its contract: the free column's dots are taken off the size, where it has so many.
 use mathlib.Core.Path.{_∙_, sym}
 use borrow.Author.Needs.{needs}
-use Rattle.ferrers.specs.Less.{less-at, less-none}
-use Rattle.ferrers.specs.Ranked.{boxCount}
+use Rattle.ferrers.specs.laws.Less.{less-at, less-none}
+use Rattle.ferrers.specs.Drawn.{boxCount}
 use Rattle.ferrers.proofs.free_boxes.Statement.{statement}
 use Rattle.ferrers.proofs.free_boxes.Tie as tie
 

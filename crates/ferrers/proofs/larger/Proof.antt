@@ -3,7 +3,7 @@ use mathlib.Core.Path.{refl}
 use Prim.Native.Nat.{_+_, _-_, _≤_}
 use native.Mathlib.Omega.{arith}
 use Rattle.counts.specs.Gaussian.{greatestCount}
-use Rattle.ferrers.specs.Weights.{Adding, adding-start, adding-step, adding-end, size-short}
+use Rattle.ferrers.specs.laws.Weight.{Adding, adding-start, adding-step, adding-end, size-short}
 use Rattle.ferrers.proofs.larger.Statement.{statement}
 use Rattle.ferrers.proofs.larger.Tie as tie
 

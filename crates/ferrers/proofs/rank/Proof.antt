@@ -4,8 +4,8 @@ use Prim.Native.Nat.{_+_, _*_, _-_, _^_, _≤_}
 use native.Mathlib.Omega.{arith}
 use borrow.Author.Needs.{needs}
 use Rattle.ferrers.specs.Ferrers.{size, largerDiagrams, ferrersIndex}
-use Rattle.ferrers.specs.Parts.{Parts, parts, placeOf}
-use Rattle.ferrers.specs.Weights.{sizes}
+use Rattle.ferrers.specs.laws.IndexParts.{Parts, parts, placeOf}
+use Rattle.ferrers.specs.laws.Weight.{sizes}
 use Rattle.ferrers.proofs.rank.Statement.{statement}
 use Rattle.ferrers.proofs.rank.Tie as tie
 

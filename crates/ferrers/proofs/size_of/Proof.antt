@@ -4,7 +4,7 @@ use mathlib.Core.Path.{_≡_, _∙_, sym}
 use mathlib.Core.Bool.{true, false}
 use mathlib.Core.Logic.{⊎-elim}
 use native.Mathlib.Omega.{arith}
-use Rattle.ferrers.specs.Counting.{Counting, counting-start, counting-pivot, counting-free, counting-end, dots-few}
+use Rattle.ferrers.specs.laws.SizeOf.{Counting, counting-start, counting-pivot, counting-free, counting-end, dots-few}
 use Rattle.ferrers.specs.Ferrers.{size}
 use Rattle.ferrers.proofs.size_of.Statement.{statement}
 use Rattle.ferrers.proofs.size_of.Tie as tie

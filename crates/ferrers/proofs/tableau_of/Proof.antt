@@ -5,9 +5,9 @@ use mathlib.Core.Logic.{⊎-elim}
 use Prim.Native.Nat.{_-_, _<_, _≤_}
 use native.Mathlib.Nat.{le-of-lt}
 use native.Mathlib.Omega.{arith}
-use Rattle.field.specs.Small.{size-small}
-use Rattle.ferrers.specs.Parts.{parts}
-use Rattle.ferrers.specs.Reading.{Reading, ReadColumn, reading-start, reading-pivot, reading-free, reading-end}
+use Rattle.field.specs.laws.Small.{size-small}
+use Rattle.ferrers.specs.laws.IndexParts.{parts}
+use Rattle.ferrers.specs.laws.TableauOf.{Reading, ReadColumn, reading-start, reading-pivot, reading-free, reading-end}
 use Rattle.ferrers.proofs.tableau_of.Statement.{statement}
 use Rattle.ferrers.proofs.tableau_of.Tie as tie
 

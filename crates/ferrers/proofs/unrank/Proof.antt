@@ -4,11 +4,11 @@ use Prim.Native.Nat.{_/_, _%_, _<_}
 use native.Mathlib.Nat.{mod-lt}
 use native.Mathlib.Omega.{arith}
 use borrow.Author.Needs.{needs}
-use Rattle.field.specs.Small.{size-small}
-use Rattle.ferrers.specs.Ranked.{diagramShape}
-use Rattle.ferrers.specs.Searching.{found-place, found-drawn}
-use Rattle.ferrers.specs.Unranking.{Shaped, diagram-shaped}
-use Rattle.ferrers.specs.Weights.{Sizes, sizes}
+use Rattle.field.specs.laws.Small.{size-small}
+use Rattle.ferrers.specs.Drawn.{diagramShape}
+use Rattle.ferrers.specs.laws.FindSize.{found-place, found-drawn}
+use Rattle.ferrers.specs.laws.WriteMatrix.{Shaped, diagram-shaped}
+use Rattle.ferrers.specs.laws.Weight.{Sizes, sizes}
 use Rattle.ferrers.proofs.unrank.Statement.{statement}
 use Rattle.ferrers.proofs.unrank.Tie as tie
 

@@ -3,7 +3,7 @@ use mathlib.Core.Path.{ap₂}
 use Prim.Native.Nat.{_*_}
 use native.Mathlib.Omega.{arith}
 use borrow.Author.Needs.{needs}
-use Rattle.ferrers.specs.Weights.{Sizes, sizes}
+use Rattle.ferrers.specs.laws.Weight.{Sizes, sizes}
 use Rattle.ferrers.proofs.weight.Statement.{statement}
 use Rattle.ferrers.proofs.weight.Tie as tie
 

@@ -5,8 +5,8 @@ use Prim.Native.Nat.{_+_, _*_, _%_}
 use native.Mathlib.Nat.{add-mod-mod}
 use native.Mathlib.Omega.{arith}
 use Rattle.field.specs.Field.{add as sum, multiply as product}
-use Rattle.field.specs.Reciprocal.{sum-reciprocal}
-use Rattle.field.specs.Small.{size-small}
+use Rattle.field.specs.laws.Reciprocal.{sum-reciprocal}
+use Rattle.field.specs.laws.Small.{size-small}
 use Rattle.field.proofs.Bytes.{byte-product, byte-sum, small}
 use borrow.Author.Needs.{needs}
 use Rattle.field.proofs.add_product.Statement.{statement}

@@ -1,8 +1,8 @@
 -- `field::inverse_at` meets its contract: each arm by computing the list's entry at its place.
-use Rattle.basics.specs.LookUp.{arm, past}
+use Rattle.basics.specs.laws.LookUp.{arm, past}
 use Rattle.basics.specs.Table.{tabulate}
 use Rattle.field.specs.Field.{multiply, inverseFrom, invert}
-use Rattle.field.specs.Inverses.{entry, inverses}
+use Rattle.field.specs.laws.Inverses.{entry, inverses}
 use Rattle.field.proofs.inverse_at.Statement.{statement}
 use Rattle.field.proofs.inverse_at.Tie as tie
 

@@ -3,7 +3,7 @@ use mathlib.Core.Path.{ap₂, _∙_}
 use Prim.Native.Nat.{_+_, _*_}
 use native.Mathlib.Omega.{arith}
 use lib.ListN.{getD}
-use Rattle.field.specs.Inverses.{inverses}
+use Rattle.field.specs.laws.Inverses.{inverses}
 use Rattle.field.proofs.Inverses.{place-within, inverse-at}
 use borrow.Author.Needs.{needs}
 use Rattle.field.proofs.invert.Statement.{statement}

@@ -2,7 +2,7 @@
 use mathlib.Core.Path.{ap, _∙_}
 use borrow.Author.Needs.{needs}
 use lib.Dec.{ltb}
-use Rattle.basics.specs.Member.{position-member}
+use Rattle.basics.specs.laws.Member.{position-member}
 use Rattle.field.specs.Field.{fieldSizes, isFieldSize}
 use Rattle.field.proofs.is_size.Statement.{statement}
 use Rattle.field.proofs.is_size.Tie as tie

@@ -6,10 +6,11 @@ use native.Mathlib.Nat.{mod-lt, mod-self, mod-eq-of-lt, sub-zero}
 use native.Mathlib.Omega.{arith}
 use borrow.Author.Tests.{not-true, not-false}
 use lib.Dec.{T}
-use Rattle.basics.specs.Choice.{pick, holds}
+use Rattle.basics.specs.Choice.{pick}
+use Rattle.basics.specs.laws.Choice.{holds}
 use Rattle.field.specs.Field.{isFieldSize, negate as negative}
-use Rattle.field.specs.InField.{in-field}
-use Rattle.field.specs.Small.{size-small}
+use Rattle.field.specs.laws.InField.{in-field}
+use Rattle.field.specs.laws.Small.{size-small}
 use borrow.Author.Needs.{needs}
 use Rattle.field.proofs.negate.Statement.{statement}
 use Rattle.field.proofs.negate.Tie as tie

@@ -1,5 +1,5 @@
 -- `field::place` meets its contract: each arm knows q.
-use Rattle.basics.specs.Member.{position-none}
+use Rattle.basics.specs.laws.Member.{position-none}
 use Rattle.field.specs.Field.{fieldSizes, isFieldSize}
 use Rattle.field.proofs.Sizes.{no-size}
 use Rattle.field.proofs.place.Statement.{statement}

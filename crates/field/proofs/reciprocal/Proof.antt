@@ -1,6 +1,6 @@
 -- `field::reciprocal` meets its contract: each arm knows q.
 use mathlib.Core.Path.{_≡_}
-use Rattle.field.specs.Small.{last-size}
+use Rattle.field.specs.laws.Small.{last-size}
 use Rattle.field.proofs.reciprocal.Statement.{statement}
 use Rattle.field.proofs.reciprocal.Tie as tie
 

@@ -12,16 +12,16 @@ use Prim.Native.Nat.{ℕ, _+_, _*_, _≤_, _<_}
 use native.Mathlib.Nat.{mul-le-mul}
 use native.Mathlib.Omega.{arith}
 use lib.ListN.{length, length-append, List·getD-append}
-use Rattle.basics.specs.Order.{le-or-lt}
-use Rattle.field.specs.Small.{size-small}
+use Rattle.basics.specs.laws.Order.{le-or-lt}
+use Rattle.field.specs.laws.Small.{size-small}
 use Rattle.matrix.specs.Matrix.{Reduced}
 use Rattle.counts.specs.Gaussian.{gaussian}
 use Rattle.counts.specs.laws.GaussianLaws.{gaussian-whole}
 use Rattle.settings.specs.laws.Accepted.{Accepted}
-use Rattle.extended.specs.Ranked.{drawnExtended}
-use Rattle.extended.specs.Theorems.{drawn-reduced}
+use Rattle.extended.specs.Drawn.{drawnExtended}
+use Rattle.extended.specs.laws.Theorems.{drawn-reduced}
 use Rattle.ferrers.specs.Ferrers.{ferrersIndex}
-use Rattle.ferrers.specs.Theorems.{index-below-count}
+use Rattle.ferrers.specs.laws.Theorems.{index-below-count}
 use Rattle.text.specs.Text.{numeral}
 use Rattle.text.specs.Rows.{DigitRows, rowsText}
 use Rattle.text.specs.laws.Numeral.{numeral-length}

@@ -17,7 +17,7 @@ use native.Mathlib.Omega.{arith}
 use borrow.Author.Tests.{eq-eqb, ne-eqb, eqb-true, ltb-true, lt-ltb, le-ltb}
 use lib.Dec.{eqb, ltb}
 use lib.ListN.{length}
-use Rattle.basics.specs.Order.{le-or-lt}
+use Rattle.basics.specs.laws.Order.{le-or-lt}
 use Rattle.refusal.specs.Refusal.{lineRefusal}
 use Rattle.counts.specs.Gaussian.{gaussian}
 use Rattle.settings_line.specs.SettingsLine.{parsed}

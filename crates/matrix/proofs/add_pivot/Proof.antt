@@ -1,7 +1,7 @@
 -- `matrix::add_pivot` meets its contract: the shifted bit is the pivot's power of 2.
 use Prim.Native.Nat.{_-_}
 use native.Mathlib.Omega.{arith}
-use Rattle.matrix.specs.Bits.{shifted-one}
+use Rattle.matrix.specs.laws.Bits.{shifted-one}
 use Rattle.matrix.proofs.add_pivot.Statement.{statement}
 use Rattle.matrix.proofs.add_pivot.Tie as tie
 

@@ -4,10 +4,10 @@ use Prim.Native.Nat.{suc, _-_, _+_, _*_, _^_, _<_, _≤_}
 use native.Mathlib.Numerals.{add-one}
 use native.Mathlib.Omega.{arith}
 use lib.ListN.{length}
-use Rattle.basics.specs.Flat.{row-fits}
+use Rattle.basics.specs.laws.Flat.{row-fits}
 use Rattle.matrix.specs.Matrix.{entry}
-use Rattle.matrix.specs.Shape.{topValue}
-use Rattle.matrix.specs.TopValue.{append-none, append-next, append-grows}
+use Rattle.matrix.specs.laws.Shape.{topValue}
+use Rattle.matrix.specs.laws.TopValue.{append-none, append-next, append-grows}
 use Rattle.matrix.proofs.append_digits.Statement.{statement}
 use Rattle.matrix.proofs.append_digits.Tie as tie
 

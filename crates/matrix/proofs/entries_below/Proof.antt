@@ -7,7 +7,7 @@ use native.Mathlib.Omega.{arith}
 use lib.Dec.{ltb}
 use lib.ListN.{length, getD}
 use Rattle.matrix.specs.Matrix.{entriesBelow}
-use Rattle.matrix.specs.Decided.{belowTo, below-start, below-more, below-none}
+use Rattle.matrix.specs.laws.Tests.{belowTo, below-start, below-more, below-none}
 use Rattle.matrix.proofs.entries_below.Statement.{statement}
 use Rattle.matrix.proofs.entries_below.Tie as tie
 

@@ -6,7 +6,7 @@ use native.Mathlib.Numerals.{add-one}
 use native.Mathlib.Omega.{arith}
 use lib.ListN.{getD}
 use Rattle.matrix.specs.Matrix.{lead as leadOf, leadFrom}
-use Rattle.matrix.specs.LeadSearch.{lead-here, lead-next, lead-end}
+use Rattle.matrix.specs.laws.LeadLoop.{lead-here, lead-next, lead-end}
 use Rattle.matrix.proofs.lead.Statement.{statement}
 use Rattle.matrix.proofs.lead.Tie as tie
 

@@ -1,7 +1,7 @@
 -- `matrix::pivot_at` meets its contract: what is shifted down has no trailing zeros exactly where its lowest bit is 1.
 use Prim.Native.Nat.{_^_, _/_}
 use borrow.Author.Needs.{needs}
-use Rattle.matrix.specs.Bits.{trailing-odd}
+use Rattle.matrix.specs.laws.Bits.{trailing-odd}
 use Rattle.matrix.proofs.pivot_at.Statement.{statement}
 use Rattle.matrix.proofs.pivot_at.Tie as tie
 

@@ -7,7 +7,7 @@ use native.Mathlib.Omega.{arith}
 use borrow.Author.Needs.{needs}
 use lib.ListN.{length, length-set}
 use Rattle.matrix.specs.Matrix.{identifying, Reduced}
-use Rattle.matrix.specs.Pivots.{Left, left-start, left-end, Next, left-step}
+use Rattle.matrix.specs.laws.Pivots.{Left, left-start, left-end, Next, left-step}
 use Rattle.matrix.proofs.pivot_columns.Statement.{statement}
 use Rattle.matrix.proofs.pivot_columns.Tie as tie
 

@@ -2,8 +2,8 @@
 use mathlib.Core.Path.{_∙_, sym}
 use native.Mathlib.Omega.{arith}
 use borrow.Author.Tests.{le-leb}
-use Rattle.basics.specs.Flat.{row-fits}
-use Rattle.matrix.specs.Decided.{pivot-within}
+use Rattle.basics.specs.laws.Flat.{row-fits}
+use Rattle.matrix.specs.laws.Tests.{pivot-within}
 use Rattle.matrix.proofs.pivot_of.Statement.{statement}
 use Rattle.matrix.proofs.pivot_of.Tie as tie
 

@@ -6,8 +6,8 @@ use native.Mathlib.Omega.{arith}
 use borrow.Author.Tests.{not-true, not-false}
 use Rattle.basics.specs.Choice.{pick}
 use Rattle.matrix.specs.Matrix.{identifying}
-use Rattle.matrix.specs.Decided.{pivotOf}
-use Rattle.matrix.specs.Gathered.{Gathered, gathered-start, gathered-fails, Gathering, gathered-step, gathered-end}
+use Rattle.matrix.specs.laws.Tests.{pivotOf}
+use Rattle.matrix.specs.laws.ReducedVector.{Gathered, gathered-start, gathered-fails, Gathering, gathered-step, gathered-end}
 use Rattle.matrix.proofs.reduced_vector.Statement.{statement}
 use Rattle.matrix.proofs.reduced_vector.Tie as tie
 

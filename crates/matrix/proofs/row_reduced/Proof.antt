@@ -1,8 +1,8 @@
 -- `matrix::row_reduced` meets its contract: each return is what the clauses before it leave of the test.
 use mathlib.Core.Path.{_∙_, sym}
 use native.Mathlib.Omega.{arith}
-use Rattle.basics.specs.Flat.{row-fits}
-use Rattle.matrix.specs.Above.{above-zero, above-not-one, above-not-rising, above-rest}
+use Rattle.basics.specs.laws.Flat.{row-fits}
+use Rattle.matrix.specs.laws.RowReduced.{above-zero, above-not-one, above-not-rising, above-rest}
 use Rattle.matrix.proofs.row_reduced.Statement.{statement}
 use Rattle.matrix.proofs.row_reduced.Tie as tie
 

@@ -2,14 +2,15 @@
 use mathlib.Core.Path.{_≡_, sym}
 use mathlib.Core.Bool.{true}
 use Prim.Native.Nat.{_-_, _≤_}
-use Rattle.basics.specs.Flat.{row-fits}
+use Rattle.basics.specs.laws.Flat.{row-fits}
 use native.Mathlib.Numerals.{add-one}
 use native.Mathlib.Omega.{arith}
 use borrow.Author.Tests.{eq-eqb, ne-eqb}
 use lib.Dec.{eqb}
-use Rattle.basics.specs.All.{allBelow, allBelow-start, allBelow-more, allBelow-end, allBelow-false}
+use Rattle.basics.specs.All.{allBelow}
+use Rattle.basics.specs.laws.All.{allBelow-start, allBelow-more, allBelow-end, allBelow-false}
 use Rattle.matrix.specs.Matrix.{entry}
-use Rattle.matrix.specs.Above.{rowsAbove}
+use Rattle.matrix.specs.laws.RowReduced.{rowsAbove}
 use Rattle.matrix.proofs.rows_above.Statement.{statement}
 use Rattle.matrix.proofs.rows_above.Tie as tie
 

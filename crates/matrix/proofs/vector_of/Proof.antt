@@ -2,7 +2,7 @@
 use Prim.Native.Nat.{_-_}
 use native.Mathlib.Omega.{arith}
 use lib.ListN.{getD}
-use Rattle.matrix.specs.VectorRows.{Adding, adding-start, adding-end, Added, adding-step}
+use Rattle.matrix.specs.laws.VectorRows.{Adding, adding-start, adding-end, Added, adding-step}
 use Rattle.matrix.proofs.vector_of.Statement.{statement}
 use Rattle.matrix.proofs.vector_of.Tie as tie
 

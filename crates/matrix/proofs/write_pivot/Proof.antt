@@ -1,7 +1,7 @@
 -- `matrix::write_pivot` meets its contract: one byte is written, within the matrix.
 use native.Mathlib.Omega.{arith}
-use Rattle.basics.specs.Flat.{row-fits}
-use Rattle.matrix.specs.Written.{written-unit}
+use Rattle.basics.specs.laws.Flat.{row-fits}
+use Rattle.matrix.specs.laws.WriteColumn.{written-unit}
 use borrow.Author.Needs.{needs}
 use Rattle.matrix.proofs.write_pivot.Statement.{statement}
 use Rattle.matrix.proofs.write_pivot.Tie as tie

@@ -11,11 +11,11 @@ use Prim.Native.Nat.{ℕ, _*_, _<_}
 use borrow.Author.Tests.{eq-eqb, eqb-true}
 use lib.Dec.{eqb}
 use lib.ListN.{length}
-use Rattle.basics.specs.Choice.{holds, is-true}
+use Rattle.basics.specs.laws.Choice.{holds, is-true}
 use Rattle.refusal.specs.Refusal.{refuseUnless, lengthRefusal, entryRefusal, unlessRefused}
 use Rattle.refusal.specs.laws.First.{first-zero, first-passed, test-zero, test-passed, first-none, told-number, told-value}
 use Rattle.matrix.specs.Matrix.{entriesBelow, isReduced, Reduced}
-use Rattle.matrix.specs.Decided.{entries-below-true, reduced-exactly}
+use Rattle.matrix.specs.laws.Tests.{entries-below-true, reduced-exactly}
 use Rattle.numbering.specs.Numbering.{choiceRefusal, indexOf, indexIn}
 use Rattle.numbering.specs.laws.Chosen.{Chosen, chosen}
 use Rattle.numbering.specs.laws.Either.{typed-value}

@@ -11,13 +11,13 @@ use Prim.Native.Nat.{ℕ, _<_}
 use borrow.Author.Tests.{eq-eqb, ne-eqb}
 use lib.Dec.{eqb}
 use Rattle.basics.specs.Choice.{pick}
-use Rattle.field.specs.Small.{size-small}
+use Rattle.field.specs.laws.Small.{size-small}
 use Rattle.counts.specs.Gaussian.{gaussian}
 use Rattle.settings.specs.Settings.{settingsRefusal}
 use Rattle.settings.specs.laws.Accepted.{accepted}
 use Rattle.matrix.specs.Matrix.{Reduced}
-use Rattle.extended.specs.Theorems as extended-theorems
-use Rattle.ferrers.specs.Theorems as ferrers-theorems
+use Rattle.extended.specs.laws.Theorems as extended-theorems
+use Rattle.ferrers.specs.laws.Theorems as ferrers-theorems
 use Rattle.numbering.specs.Numbering.{extended, Numbering, extendedNumbering, ferrersNumbering, numberingOf, indexIn, indexValue}
 
 pub record Orderly (N : Numbering) (q n k : ℕ) : Type 0 where

@@ -3,7 +3,7 @@ use mathlib.Core.Path.{_≡_, _∙_, ap, sym, subst}
 use Prim.Native.Nat.{_<_}
 use native.Mathlib.Omega.{arith}
 use lib.ListN.{length}
-use Rattle.linear.specs.ReducedOf.{reduced-le}
+use Rattle.linear.specs.laws.ReducedOf.{reduced-le}
 use Rattle.refusal.specs.laws.First.{first-refused, kept, done}
 use Rattle.receive.specs.Answer.{receivedNumber, receivedDimension}
 use Rattle.receive.specs.laws.ReducedAnswer.{received-reduced}

@@ -12,7 +12,7 @@ use native.Mathlib.Decide.{ℕ-discrete}
 use borrow.Author.Tests.{eq-eqb, eqb-true}
 use lib.Dec.{T, eqb}
 use lib.ListN.{length}
-use Rattle.basics.specs.Choice.{holds}
+use Rattle.basics.specs.laws.Choice.{holds}
 use Rattle.refusal.specs.Refusal.{lengthRefusal, entryRefusal, refuseUnless, unlessRefused}
 use Rattle.refusal.specs.laws.First.{first-zero, first-refused, first-passed, test-zero, test-passed, first-none, kept, done}
 use Rattle.matrix.specs.Matrix.{entriesBelow}

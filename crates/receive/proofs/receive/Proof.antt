@@ -3,7 +3,7 @@ use mathlib.Core.Path.{_≡_, _∙_, ap, sym}
 use native.Mathlib.Omega.{arith}
 use borrow.Author.Tests.{not-true, not-false}
 use lib.ListN.{length}
-use Rattle.basics.specs.Choice.{holds}
+use Rattle.basics.specs.laws.Choice.{holds}
 use Rattle.refusal.specs.Refusal.{entryRefusal}
 use Rattle.refusal.specs.laws.First.{first-refused, first-passed, test-refused, kept, done}
 use Rattle.receive.specs.Receive.{rowsRefusal, receiveRefusal, receiveOf}

@@ -6,7 +6,7 @@ use native.Mathlib.Nat.{min-eq-left, mul-le-mul}
 use native.Mathlib.Omega.{arith}
 use lib.ListN.{length, take, drop, replicate, length-take, length-drop, length-append, length-replicate, replicate-append-replicate}
 use lib.Seq.{take-at}
-use Rattle.matrix.specs.Decided.{entries-below}
+use Rattle.matrix.specs.laws.Tests.{entries-below}
 use Rattle.matrix.specs.Matrix.{pivot, Reduced}
 use Rattle.linear.specs.Span.{rowsOf}
 use Rattle.linear.specs.Eliminate.{reducedOf}

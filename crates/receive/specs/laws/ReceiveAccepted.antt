@@ -12,7 +12,7 @@ use native.Mathlib.Decide.{ℕ-discrete}
 use borrow.Author.Tests.{eq-eqb, le-leb, eqb-true, leb-true}
 use lib.Dec.{T, eqb, leb}
 use lib.ListN.{length}
-use Rattle.basics.specs.Choice.{holds}
+use Rattle.basics.specs.laws.Choice.{holds}
 use Rattle.refusal.specs.Refusal.{lengthRefusal, rowCountRefusal, refuseUnless}
 use Rattle.refusal.specs.laws.First.{first-zero, first-passed, test-zero, test-passed, first-none, kept, done}
 use Rattle.matrix.specs.Matrix.{entriesBelow}

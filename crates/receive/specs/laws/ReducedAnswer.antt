@@ -12,20 +12,20 @@ use native.Mathlib.Omega.{arith}
 use lib.Dec.{T}
 use lib.ListN.{length, getD, take, replicate}
 use lib.Seq.{take-at, getD-take}
-use Rattle.field.specs.Decide.{laws}
+use Rattle.field.specs.laws.Decide.{laws}
 use Rattle.field.specs.Field.{isFieldSize}
 use Rattle.matrix.specs.Matrix.{entriesBelow, pivot, Reduced}
-use Rattle.matrix.specs.Decided.{entries-below}
+use Rattle.matrix.specs.laws.Tests.{entries-below}
 use Rattle.linear.specs.Span.{All, Row, rowsOf}
-use Rattle.linear.specs.Every.{all-of}
+use Rattle.linear.specs.laws.Every.{all-of}
 use Rattle.linear.specs.Eliminate.{reducedRows, reducedOf, dimension}
-use Rattle.linear.specs.Flat.{join-pivot}
-use Rattle.linear.specs.FlatRows.{rows-valid}
-use Rattle.linear.specs.ReducedOf.{reducedRows-kept, reducedOf-reduced, dimension-le}
-use Rattle.linear.specs.ReducedRows.{rows-sized}
+use Rattle.linear.specs.laws.FlatMatrix.{join-pivot}
+use Rattle.linear.specs.laws.FlatRows.{rows-valid}
+use Rattle.linear.specs.laws.ReducedOf.{reducedRows-kept, reducedOf-reduced, dimension-le}
+use Rattle.linear.specs.laws.ReducedRows.{rows-sized}
 use Rattle.reduction.specs.Padded.{padded}
-use Rattle.reduction.specs.Parts.{leads-at}
-use Rattle.reduction.specs.Steps.{leads}
+use Rattle.reduction.specs.laws.Parts.{leads-at}
+use Rattle.reduction.specs.laws.Steps.{leads}
 
 module _ (q n r : ℕ) (input : List ℕ) (field : T (isFieldSize q)) (sized : length input ≡ r * n) (below : T (entriesBelow q input)) where
   pub received-rows : All (Row q n) (rowsOf n r input)

@@ -9,7 +9,7 @@ use mathlib.Core.List.{List, [], _∷_}
 use Prim.Native.Nat.{ℕ, _<_, _≤_}
 use native.Mathlib.Omega.{arith}
 use borrow.Author.Tests.{lt-ltb, le-ltb, le-leb, lt-leb}
-use Rattle.basics.specs.Order.{le-or-lt}
+use Rattle.basics.specs.laws.Order.{le-or-lt}
 use Rattle.refusal.specs.Refusal.{first, unlessRefused, tooFewRefusal, tooManyRefusal}
 use Rattle.refusal.specs.laws.First.{first-refused, first-passed, test-refused, test-passed, first-none, first-one, kept, done}
 use Rattle.numbering.specs.Numbering.{indexOf, indexIn}

@@ -10,19 +10,19 @@ use Prim.Native.Nat.{ℕ, _+_, _*_, _-_, _≤_, _<_}
 use native.Mathlib.Omega.{arith}
 use lib.ListN.{length, getD, drop, replicate, length-append, length-drop, take-append-drop, length-replicate, getD-replicate}
 use lib.Seq.{take-at, getD-drop, getD-append-add, ext-getD}
-use Rattle.field.specs.Laws.{Laws}
-use Rattle.field.specs.Decide.{laws}
+use Rattle.field.specs.FieldLaws.{Laws}
+use Rattle.field.specs.laws.Decide.{laws}
 use Rattle.settings.specs.Settings.{settingsRefusal}
 use Rattle.settings.specs.laws.Accepted.{accepted}
 use Rattle.matrix.specs.Matrix.{Reduced}
 use Rattle.linear.specs.Span.{All, Row, rowsOf}
 use Rattle.linear.specs.Eliminate.{join, insertRows, reducedRows, reducedOf, dimension}
-use Rattle.linear.specs.Flat.{rows-length, join-rows}
-use Rattle.linear.specs.FlatRows.{rows-joined, join-taken}
-use Rattle.linear.specs.InsertMany.{Kept}
-use Rattle.linear.specs.ReducedOf.{reducedRows-kept, reducedOf-reduced, dimension-le}
-use Rattle.linear.specs.ReducedRows.{reduced-rows, rows-sized}
-use Rattle.linear.specs.SameMatrix.{reducedRows-again}
+use Rattle.linear.specs.laws.FlatMatrix.{rows-length, join-rows}
+use Rattle.linear.specs.laws.FlatRows.{rows-joined, join-taken}
+use Rattle.linear.specs.laws.InsertMany.{Kept}
+use Rattle.linear.specs.laws.ReducedOf.{reducedRows-kept, reducedOf-reduced, dimension-le}
+use Rattle.linear.specs.laws.ReducedRows.{reduced-rows, rows-sized}
+use Rattle.linear.specs.laws.SameMatrix.{reducedRows-again}
 use Rattle.reduction.specs.Padded.{padded}
 use Rattle.receiver.specs.Receiver.{empty, used, heldRows, holding}
 use Rattle.receiver.specs.laws.Sound.{Sound, used-fit}

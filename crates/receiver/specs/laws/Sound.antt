@@ -13,12 +13,12 @@ use borrow.Author.Tests.{eq-eqb, le-leb}
 use lib.Dec.{eqb, leb, eqb→eq, leb→le}
 use lib.ListN.{length, getD, length-drop}
 use lib.Seq.{length-take-le, getD-drop}
-use Rattle.basics.specs.Choice.{is-true, holds}
-use Rattle.basics.specs.Test.{and-left, and-right}
+use Rattle.basics.specs.laws.Choice.{is-true, holds}
+use Rattle.basics.specs.laws.Test.{and-left, and-right}
 use Rattle.settings.specs.Settings.{settingsRefusal}
 use Rattle.settings.specs.laws.Accepted.{accepted}
 use Rattle.matrix.specs.Matrix.{entriesBelow, isReduced, Reduced}
-use Rattle.matrix.specs.Decided.{entries-below, entries-below-true, reduced-exactly}
+use Rattle.matrix.specs.laws.Tests.{entries-below, entries-below-true, reduced-exactly}
 use Rattle.receiver.specs.Receiver.{used, unused, wellFormed}
 use Rattle.receiver.specs.declared.Receiver.{Receiver}
 

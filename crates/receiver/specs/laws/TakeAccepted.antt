@@ -12,7 +12,8 @@ use native.Mathlib.Omega.{arith}
 use borrow.Author.Tests.{eq-eqb, eqb-true, le-ltb}
 use lib.Dec.{T, eqb, ltb}
 use lib.ListN.{length}
-use Rattle.basics.specs.Choice.{pick, holds}
+use Rattle.basics.specs.Choice.{pick}
+use Rattle.basics.specs.laws.Choice.{holds}
 use Rattle.refusal.specs.Refusal.{receiverRefusal, lengthRefusal, entryRefusal, numberingRefusal, refuseUnless}
 use Rattle.refusal.specs.laws.First.{test-zero, test-passed, first-none, kept, done}
 use Rattle.matrix.specs.Matrix.{entriesBelow}

@@ -14,21 +14,21 @@ use lib.Dec.{ltb}
 use lib.ListN.{length, getD, take, drop, replicate, length-replicate, replicate-append-replicate, take-append-drop}
 use lib.Seq.{length-take-le, take-at, take-take, take-append-add}
 use Rattle.basics.specs.Choice.{pick}
-use Rattle.field.specs.Laws.{Laws}
+use Rattle.field.specs.FieldLaws.{Laws}
 use Rattle.matrix.specs.Matrix.{pivot}
 use Rattle.linear.specs.Span.{Row, rowsOf}
 use Rattle.linear.specs.Eliminate.{join, insertRow, reducedRows, reducedOf, dimension}
-use Rattle.linear.specs.Flat.{join-length}
-use Rattle.linear.specs.FlatRows.{rows-joined}
-use Rattle.linear.specs.InsertMany.{Kept, insert-kept}
-use Rattle.linear.specs.OneMore.{reducedRows-more}
-use Rattle.linear.specs.ReducedOf.{reduced-le}
-use Rattle.linear.specs.ReducedRows.{rows-sized}
-use Rattle.linear.specs.SameMatrix.{reducedRows-again}
-use Rattle.reduction.specs.Leading.{leads-known}
+use Rattle.linear.specs.laws.FlatMatrix.{join-length}
+use Rattle.linear.specs.laws.FlatRows.{rows-joined}
+use Rattle.linear.specs.laws.InsertMany.{Kept, insert-kept}
+use Rattle.linear.specs.laws.OneMore.{reducedRows-more}
+use Rattle.linear.specs.laws.ReducedOf.{reduced-le}
+use Rattle.linear.specs.laws.ReducedRows.{rows-sized}
+use Rattle.linear.specs.laws.SameMatrix.{reducedRows-again}
+use Rattle.reduction.specs.laws.Leads.{leads-known}
 use Rattle.reduction.specs.Padded.{padded}
-use Rattle.reduction.specs.Parts.{rows-front}
-use Rattle.reduction.specs.Steps.{leads}
+use Rattle.reduction.specs.laws.Parts.{rows-front}
+use Rattle.reduction.specs.laws.Steps.{leads}
 use Rattle.receiver.specs.Receiver.{used, heldRows, holding, takenIn}
 use Rattle.receiver.specs.laws.Sound.{Sound, used-fit}
 use Rattle.receiver.specs.laws.Held.{settings-laws, held-kept, held-join, held-length, rest-zero}

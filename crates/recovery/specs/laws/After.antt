@@ -18,12 +18,12 @@ use lib.ListN.{length}
 use Rattle.settings.specs.Settings.{settingsRefusal}
 use Rattle.refusal.specs.laws.First.{done}
 use Rattle.linear.specs.Span.{All, none, Row, HasDimension}
-use Rattle.linear.specs.ReducedOf.{dimension-has}
+use Rattle.linear.specs.laws.ReducedOf.{dimension-has}
 use Rattle.receiver.specs.Receiver.{startOf, holding, lentReceiver, lentAnswer, takeNumber}
 use Rattle.receiver.specs.laws.Held.{settings-laws, holding-none}
 use Rattle.recovery.specs.Calls.{Call, begun, after, accepted, Unforged, offered, fitting}
-use Rattle.recovery.specs.laws.Fitting.{fitting-rows}
-use Rattle.recovery.specs.laws.Holding.{Answered, take-accepts as accepts, take-refuses as refuses, take-holding}
+use Rattle.recovery.specs.laws.FittingRows.{fitting-rows}
+use Rattle.recovery.specs.laws.HoldRows.{Answered, take-accepts as accepts, take-refuses as refuses, take-holding}
 use Rattle.recovery.specs.laws.Course.{Course, course}
 
 module _ (q n k : ℕ) (settings : settingsRefusal q n k ≡ 0) where

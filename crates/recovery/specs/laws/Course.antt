@@ -16,7 +16,7 @@ use Rattle.refusal.specs.Refusal.{receiverRefusal, numberingRefusal}
 use Rattle.refusal.specs.laws.First.{test-refused, test-passed, kept, done}
 use Rattle.settings.specs.Settings.{settingsRefusal}
 use Rattle.linear.specs.Span.{All, none, more, Row}
-use Rattle.linear.specs.Every.{all-append}
+use Rattle.linear.specs.laws.Every.{all-append}
 use Rattle.numbering.specs.Numbering.{isNumbering, indexOf, indexIn}
 use Rattle.receive.specs.Answer.{spaceAnswer, receivedNumber}
 use Rattle.receiver.specs.Receiver.{wellFormed, holding, takeOf, takeNumber, closeRefusal, closeOf}
@@ -24,8 +24,8 @@ use Rattle.receiver.specs.laws.TakeAccepted.{close-unrefused}
 use Rattle.receiver.specs.declared.Taken.{Taken}
 use Rattle.receive.specs.declared.Received.the-variants.{Done, TooFew, TooMany}
 use Rattle.recovery.specs.Calls.{Call, takeValue, takeLent, close, after, accepted, Unforged, none as nothing, more as further, offered, fitting}
-use Rattle.recovery.specs.laws.Fitting.{fits, fits-row}
-use Rattle.recovery.specs.laws.Holding.{well-formed-holding, take-fits, take-misfits, take-taken, take-kept}
+use Rattle.recovery.specs.laws.FittingRows.{fits, fits-row}
+use Rattle.recovery.specs.laws.HoldRows.{well-formed-holding, take-fits, take-misfits, take-taken, take-kept}
 
 pub record Course (q n k : ℕ) (rows : List (List ℕ)) (cs : List Call) : Type 0 where
   pub left : after (holding q n k rows) cs ≡ holding q n k (rows ++ fitting q n (offered cs))

@@ -9,17 +9,17 @@ use mathlib.Core.List.{List}
 use mathlib.Core.Logic.{_↔_, _⊎_, inl, inr}
 use Prim.Native.Nat.{ℕ, _≤_, _<_}
 use native.Mathlib.Omega.{arith}
-use Rattle.basics.specs.Order.{trichotomy}
-use Rattle.field.specs.Laws.{Laws}
+use Rattle.basics.specs.laws.Order.{trichotomy}
+use Rattle.field.specs.FieldLaws.{Laws}
 use Rattle.settings.specs.Settings.{settingsRefusal}
 use Rattle.matrix.specs.Matrix.{Reduced}
 use Rattle.linear.specs.Span.{All, Row, InSpan, rowsOf, HasDimension}
 use Rattle.linear.specs.Eliminate.{reducedOf, dimension}
-use Rattle.linear.specs.Every.{all-map}
-use Rattle.linear.specs.Mixture.{span-row}
-use Rattle.linear.specs.ReducedOf.{dimension-has}
-use Rattle.linear.specs.ReducedRows.{reduced-rows}
-use Rattle.linear.specs.SameMatrix.{within-dimension}
+use Rattle.linear.specs.laws.Every.{all-map}
+use Rattle.linear.specs.laws.Mixture.{span-row}
+use Rattle.linear.specs.laws.ReducedOf.{dimension-has}
+use Rattle.linear.specs.laws.ReducedRows.{reduced-rows}
+use Rattle.linear.specs.laws.SameMatrix.{within-dimension}
 use Rattle.numbering.specs.Numbering.{indexOf, indexIn}
 use Rattle.numbering.specs.laws.Either.{typed-value}
 use Rattle.receive.specs.Answer.{spaceAnswer}

@@ -14,16 +14,16 @@ use Prim.Native.Nat.{ℕ, _≤_, _<_}
 use native.Mathlib.Omega.{arith}
 use lib.ListN.{length}
 use Rattle.basics.specs.Choice.{pick}
-use Rattle.field.specs.Laws.{Laws}
+use Rattle.field.specs.FieldLaws.{Laws}
 use Rattle.counts.specs.Gaussian.{gaussian}
 use Rattle.settings.specs.Settings.{settingsRefusal}
 use Rattle.settings.specs.laws.Accepted.{accepted as settings-accepted}
 use Rattle.matrix.specs.Matrix.{Reduced}
 use Rattle.linear.specs.Span.{All, none, more, Row, InSpan, SameSpan, rowsOf, HasDimension}
-use Rattle.linear.specs.Every.{all-map, all-both}
-use Rattle.linear.specs.Mixture.{span-each, span-same, mixed-in-span}
-use Rattle.linear.specs.Flat.{rows-length, join-rows}
-use Rattle.linear.specs.ReducedRows.{reduced-rows}
+use Rattle.linear.specs.laws.Every.{all-map, all-both}
+use Rattle.linear.specs.laws.Mixture.{span-each, span-same, mixed-in-span}
+use Rattle.linear.specs.laws.FlatMatrix.{rows-length, join-rows}
+use Rattle.linear.specs.laws.ReducedRows.{reduced-rows}
 use Rattle.numbering.specs.Numbering.{isNumbering, indexIn}
 use Rattle.draw.specs.Draw.{drawBuffer}
 use Rattle.receive.specs.Receive.{receiveOf}
@@ -32,7 +32,7 @@ use Rattle.receiver.specs.Receiver.{closeOf}
 use Rattle.receiver.specs.laws.Held.{settings-laws}
 use Rattle.recovery.specs.Calls.{Call, begun, takeValue, after, accepted, offered, fitting}
 use Rattle.recovery.specs.Demand.{Buffer}
-use Rattle.recovery.specs.laws.Fitting.{fits, fits-row, row-fits}
+use Rattle.recovery.specs.laws.FittingRows.{fits, fits-row, row-fits}
 use Rattle.recovery.specs.laws.After.{accepted-fits, accepted-rows}
 use Rattle.recovery.specs.Theorem.{demand-3}
 

@@ -2,7 +2,7 @@
 use mathlib.Core.Path.{_≡_, _∙_, ap, sym}
 use native.Mathlib.Omega.{arith}
 use lib.ListN.{length, replicate}
-use Rattle.matrix.specs.Decided.{entries-below}
+use Rattle.matrix.specs.laws.Tests.{entries-below}
 use Rattle.refusal.specs.laws.First.{kept, done}
 use Rattle.reduce.specs.Reduce.{reduceRefusal, reduceOf, reduceBuffer}
 use Rattle.reduce.specs.laws.ReduceAccepted.{ReduceAccepted, reduce-accepted, reduce-told}

@@ -10,7 +10,7 @@ use Prim.Native.Nat.{ℕ, _*_, _≤_}
 use borrow.Author.Tests.{eq-eqb, le-leb, eqb-true, leb-true}
 use lib.Dec.{T, eqb, leb}
 use lib.ListN.{length}
-use Rattle.basics.specs.Choice.{holds}
+use Rattle.basics.specs.laws.Choice.{holds}
 use Rattle.refusal.specs.Refusal.{fieldSizeRefusal, shapeRefusal, lengthRefusal, entryRefusal, rowCountRefusal, refuseUnless, unlessRefused}
 use Rattle.refusal.specs.laws.First.{test-zero, test-passed, first-none, told-number, told-value}
 use Rattle.field.specs.Field.{isFieldSize}

@@ -4,11 +4,11 @@ use Prim.Native.Nat.{_+_, _-_, _≤_}
 use native.Mathlib.Numerals.{add-one}
 use native.Mathlib.Omega.{arith}
 use lib.ListN.{length, getD, set, length-set}
-use Rattle.field.specs.Decide.{laws}
+use Rattle.field.specs.laws.Decide.{laws}
 use Rattle.field.specs.Field.{add, multiply}
-use Rattle.linear.specs.Entries.{row-below}
-use Rattle.reduction.specs.Steps.{part, plusMultiple}
-use Rattle.reduction.specs.Adding.{entered, entered-none, entered-to, entered-apart, entered-more, entered-all, sum-length, sum-at}
+use Rattle.linear.specs.laws.Entries.{row-below}
+use Rattle.reduction.specs.laws.Steps.{part, plusMultiple}
+use Rattle.reduction.specs.laws.AddScaled.{entered, entered-none, entered-to, entered-apart, entered-more, entered-all, sum-length, sum-at}
 use Rattle.reduction.proofs.add_scaled.Statement.{statement}
 use Rattle.reduction.proofs.add_scaled.Tie as tie
 

@@ -5,15 +5,15 @@ use Prim.Native.Nat.{_+_, _*_, _-_, _≤_, _<_}
 use native.Mathlib.Numerals.{add-one}
 use native.Mathlib.Omega.{arith}
 use lib.ListN.{getD}
-use Rattle.basics.specs.Flat.{row-fits}
-use Rattle.field.specs.Decide.{laws}
+use Rattle.basics.specs.laws.Flat.{row-fits}
+use Rattle.field.specs.laws.Decide.{laws}
 use Rattle.linear.specs.Span.{Row}
 use Rattle.linear.specs.Eliminate.{leadOf, eliminate}
-use Rattle.linear.specs.FlatRows.{rows-each}
-use Rattle.linear.specs.RowLead.{leadOf-le}
-use Rattle.reduction.specs.Steps.{part, put}
-use Rattle.reduction.specs.Parts.{lead-read}
-use Rattle.reduction.specs.Clearing.{Clearing, clearing-start, clearing-rest, clearing-more, clearing-stop, clearing-end}
+use Rattle.linear.specs.laws.FlatRows.{rows-each}
+use Rattle.linear.specs.laws.RowLead.{leadOf-le}
+use Rattle.reduction.specs.laws.Steps.{part, put}
+use Rattle.reduction.specs.laws.Parts.{lead-read}
+use Rattle.reduction.specs.laws.ClearAbove.{Clearing, clearing-start, clearing-rest, clearing-more, clearing-stop, clearing-end}
 use Rattle.reduction.proofs.clear_above.Statement.{statement}
 use Rattle.reduction.proofs.clear_above.Tie as tie
 

@@ -3,12 +3,12 @@ use mathlib.Core.Path.{_≡_, ap, _∙_}
 use Prim.Native.Nat.{_<_}
 use native.Mathlib.Omega.{arith}
 use lib.ListN.{getD}
-use Rattle.field.specs.Decide.{laws}
+use Rattle.field.specs.laws.Decide.{laws}
 use Rattle.field.specs.Field.{invert}
-use Rattle.field.specs.InField.{in-field}
+use Rattle.field.specs.laws.InField.{in-field}
 use Rattle.linear.specs.Eliminate.{leadOf, monic}
-use Rattle.linear.specs.Entries.{row-below}
-use Rattle.reduction.specs.Steps.{multiple}
+use Rattle.linear.specs.laws.Entries.{row-below}
+use Rattle.reduction.specs.laws.Steps.{multiple}
 use borrow.Author.Needs.{needs}
 use Rattle.reduction.proofs.divide.Statement.{statement}
 use Rattle.reduction.proofs.divide.Tie as tie

@@ -3,14 +3,14 @@ use mathlib.Core.Path.{_≡_, ap, sym, _∙_}
 use Prim.Native.Nat.{_+_, _<_}
 use native.Mathlib.Omega.{arith}
 use lib.ListN.{getD}
-use Rattle.field.specs.Decide.{laws}
+use Rattle.field.specs.laws.Decide.{laws}
 use Rattle.field.specs.Field.{negate}
-use Rattle.field.specs.InField.{in-field}
+use Rattle.field.specs.laws.InField.{in-field}
 use Rattle.linear.specs.Eliminate.{leadOf, eliminate}
-use Rattle.linear.specs.Entries.{row-below}
-use Rattle.linear.specs.Unchanged.{eliminate-nothing}
-use Rattle.reduction.specs.Steps.{part, put, plusMultiple}
-use Rattle.reduction.specs.Writing.{part-read, put-same}
+use Rattle.linear.specs.laws.Entries.{row-below}
+use Rattle.linear.specs.laws.NoChange.{eliminate-nothing}
+use Rattle.reduction.specs.laws.Steps.{part, put, plusMultiple}
+use Rattle.reduction.specs.laws.Write.{part-read, put-same}
 use borrow.Author.Needs.{needs}
 use Rattle.reduction.proofs.eliminate.Statement.{statement}
 use Rattle.reduction.proofs.eliminate.Tie as tie

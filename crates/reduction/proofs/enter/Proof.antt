@@ -6,13 +6,13 @@ use native.Mathlib.Nat.{zero-add}
 use native.Mathlib.Numerals.{add-one}
 use native.Mathlib.Omega.{arith}
 use lib.ListN.{length, getD, set, length-set}
-use Rattle.field.specs.Decide.{laws}
+use Rattle.field.specs.laws.Decide.{laws}
 use Rattle.field.specs.Field.{add, multiply, negate}
-use Rattle.field.specs.InField.{in-field}
+use Rattle.field.specs.laws.InField.{in-field}
 use Rattle.linear.specs.Eliminate.{leadOf, eliminate}
-use Rattle.linear.specs.Entries.{row-below}
-use Rattle.reduction.specs.Adding.{entered, entered-none, entered-apart, entered-more, entered-all, sum-length, sum-at}
-use Rattle.reduction.specs.Steps.{part, put, plusMultiple}
+use Rattle.linear.specs.laws.Entries.{row-below}
+use Rattle.reduction.specs.laws.AddScaled.{entered, entered-none, entered-apart, entered-more, entered-all, sum-length, sum-at}
+use Rattle.reduction.specs.laws.Steps.{part, put, plusMultiple}
 use Rattle.reduction.proofs.enter.Statement.{statement}
 use Rattle.reduction.proofs.enter.Tie as tie
 

@@ -3,13 +3,13 @@ use mathlib.Core.Path.{ap, sym, _∙_}
 use Prim.Native.Nat.{_*_, _<_}
 use native.Mathlib.Omega.{arith}
 use lib.ListN.{length}
-use Rattle.field.specs.Decide.{laws}
+use Rattle.field.specs.laws.Decide.{laws}
 use Rattle.linear.specs.Eliminate.{insertRow, join}
 use Rattle.linear.specs.Span.{rowsOf}
-use Rattle.linear.specs.Flat.{rows-length}
+use Rattle.linear.specs.laws.FlatMatrix.{rows-length}
 use Rattle.reduction.specs.Padded.{padded}
-use Rattle.reduction.specs.Steps.{leads}
-use Rattle.reduction.specs.Held.{held-fits, held-length, full-same, row-room, room-zeros}
+use Rattle.reduction.specs.laws.Steps.{leads}
+use Rattle.reduction.specs.laws.Insert.{held-fits, held-length, full-same, row-room, room-zeros}
 use borrow.Author.Needs.{needs}
 use Rattle.reduction.proofs.insert.Statement.{statement}
 use Rattle.reduction.proofs.insert.Tie as tie

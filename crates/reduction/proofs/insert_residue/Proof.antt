@@ -5,27 +5,14 @@ use mathlib.Core.List.{List, _++_}
 use Prim.Native.Nat.{ℕ, _+_, _*_, _-_, _<_}
 use native.Mathlib.Omega.{arith}
 use lib.ListN.{length, take, drop}
-use Rattle.field.specs.Decide.{laws}
+use Rattle.field.specs.laws.Decide.{laws}
 use Rattle.linear.specs.Span.{All, Row, rowsOf}
 use Rattle.linear.specs.Eliminate.{leadOf, residue, monic}
-use Rattle.linear.specs.Flat.{rows-length}
-use Rattle.linear.specs.RowLead.{leadOf-le}
-use Rattle.reduction.specs.Steps.{put, leads}
-use Rattle.reduction.specs.Parts.{put-length}
-use Rattle.reduction.specs.Inserting.{
-  residue-is-row,
-  monic-is-row,
-  left-part,
-  left-lead,
-  insert-same,
-  scaled-is,
-  scaled-rows,
-  scaled-part,
-  scaled-lead,
-  placed-result,
-  one-more,
-  insert-placed,
-}
+use Rattle.linear.specs.laws.FlatMatrix.{rows-length}
+use Rattle.linear.specs.laws.RowLead.{leadOf-le}
+use Rattle.reduction.specs.laws.Steps.{put, leads}
+use Rattle.reduction.specs.laws.Parts.{put-length}
+use Rattle.reduction.specs.laws.InsertResidue.{residue-is-row, monic-is-row, left-part, left-lead, insert-same, scaled-is, scaled-rows, scaled-part, scaled-lead, placed-result, one-more, insert-placed}
 use borrow.Author.Needs.{needs}
 use Rattle.reduction.proofs.insert_residue.Statement.{statement}
 use Rattle.reduction.proofs.insert_residue.Tie as tie

@@ -1,9 +1,9 @@
 -- `reduction::monic` meets its contract: what is scaled already stays.
 use mathlib.Core.Path.{_≡_, ap, sym, _∙_}
 use lib.ListN.{getD}
-use Rattle.field.specs.Decide.{laws}
+use Rattle.field.specs.laws.Decide.{laws}
 use Rattle.linear.specs.Eliminate.{leadOf}
-use Rattle.reduction.specs.Monic.{monic-same}
+use Rattle.reduction.specs.laws.Monic.{monic-same}
 use borrow.Author.Needs.{needs}
 use Rattle.reduction.proofs.monic.Statement.{statement}
 use Rattle.reduction.proofs.monic.Tie as tie

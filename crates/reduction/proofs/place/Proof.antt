@@ -4,13 +4,13 @@ use mathlib.Core.List.{List, _∷_, _++_}
 use Prim.Native.Nat.{ℕ, _+_, _*_, _≤_}
 use native.Mathlib.Omega.{arith}
 use lib.ListN.{take, drop, length-set}
-use Rattle.field.specs.Decide.{laws}
+use Rattle.field.specs.laws.Decide.{laws}
 use Rattle.linear.specs.Span.{rowsOf}
 use Rattle.linear.specs.Eliminate.{join}
-use Rattle.linear.specs.Flat.{rows-length}
-use Rattle.reduction.specs.Steps.{part, leads, above, cleared, raised}
-use Rattle.reduction.specs.Placing.{above-le, place-bytes}
-use Rattle.reduction.specs.Leading.{leads-placed, raised-leads}
+use Rattle.linear.specs.laws.FlatMatrix.{rows-length}
+use Rattle.reduction.specs.laws.Steps.{part, leads, above, cleared, raised}
+use Rattle.reduction.specs.laws.Place.{above-le, place-bytes}
+use Rattle.reduction.specs.laws.Leads.{leads-placed, raised-leads}
 use borrow.Author.Needs.{needs}
 use Rattle.reduction.proofs.place.Statement.{statement}
 use Rattle.reduction.proofs.place.Tie as tie

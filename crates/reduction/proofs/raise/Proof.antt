@@ -3,9 +3,9 @@ use mathlib.Core.Path.{_≡_, ap, _∙_}
 use Prim.Native.Nat.{suc, _*_, _-_, _≤_}
 use native.Mathlib.Omega.{arith}
 use lib.ListN.{length}
-use Rattle.basics.specs.Flat.{row-fits}
-use Rattle.reduction.specs.Steps.{raised}
-use Rattle.reduction.specs.Raising.{raised-none, raised-more}
+use Rattle.basics.specs.laws.Flat.{row-fits}
+use Rattle.reduction.specs.laws.Steps.{raised}
+use Rattle.reduction.specs.laws.Raise.{raised-none, raised-more}
 use Rattle.reduction.proofs.raise.Statement.{statement}
 use Rattle.reduction.proofs.raise.Tie as tie
 

@@ -4,13 +4,13 @@ use Prim.Native.Nat.{ℕ, _+_, _*_, _-_, _≤_}
 use native.Mathlib.Numerals.{add-one}
 use native.Mathlib.Omega.{arith}
 use lib.ListN.{length, take, drop}
-use Rattle.basics.specs.Flat.{row-fits}
-use Rattle.field.specs.Decide.{laws}
+use Rattle.basics.specs.laws.Flat.{row-fits}
+use Rattle.field.specs.laws.Decide.{laws}
 use Rattle.linear.specs.Span.{rowsOf}
 use Rattle.linear.specs.Eliminate.{dimension, reducedRows, reducedOf}
 use Rattle.reduction.specs.Padded.{padded}
-use Rattle.reduction.specs.Steps.{leads}
-use Rattle.reduction.specs.Reducing.{Reducing, reducing-start, reducing-row, reducing-asks, reducing-more}
+use Rattle.reduction.specs.laws.Steps.{leads}
+use Rattle.reduction.specs.laws.Reduce.{Reducing, reducing-start, reducing-row, reducing-asks, reducing-more}
 use Rattle.reduction.proofs.reduce.Statement.{statement}
 use Rattle.reduction.proofs.reduce.Tie as tie
 

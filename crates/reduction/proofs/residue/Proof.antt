@@ -7,28 +7,15 @@ use native.Mathlib.Nat.{zero-mul}
 use native.Mathlib.Numerals.{add-one}
 use native.Mathlib.Omega.{arith}
 use lib.ListN.{length, getD, take}
-use Rattle.basics.specs.Flat.{row-fits}
-use Rattle.field.specs.Decide.{laws}
+use Rattle.basics.specs.laws.Flat.{row-fits}
+use Rattle.field.specs.laws.Decide.{laws}
 use Rattle.linear.specs.Eliminate.{leadOf, residue}
-use Rattle.linear.specs.InsertMany.{Kept}
+use Rattle.linear.specs.laws.InsertMany.{Kept}
 use Rattle.linear.specs.Span.{rowsOf}
-use Rattle.reduction.specs.Steps.{part, put, leads}
-use Rattle.reduction.specs.Parts.{lead-read, pasted}
-use Rattle.reduction.specs.Leading.{lead-inside}
-use Rattle.reduction.specs.Eliminating.{
-  Eliminating,
-  eliminating-none,
-  eliminating-start,
-  first-row,
-  started-rows,
-  started-fits,
-  started-put,
-  eliminating-length,
-  eliminating-part,
-  eliminating-row,
-  eliminating-more,
-  eliminating-end,
-}
+use Rattle.reduction.specs.laws.Steps.{part, put, leads}
+use Rattle.reduction.specs.laws.Parts.{lead-read, pasted}
+use Rattle.reduction.specs.laws.Leads.{lead-inside}
+use Rattle.reduction.specs.laws.Residue.{Eliminating, eliminating-none, eliminating-start, first-row, started-rows, started-fits, started-put, eliminating-length, eliminating-part, eliminating-row, eliminating-more, eliminating-end}
 use Rattle.reduction.proofs.residue.Statement.{statement}
 use Rattle.reduction.proofs.residue.Tie as tie
 

@@ -5,12 +5,12 @@ use Prim.Native.Nat.{_-_, _≤_, _<_}
 use native.Mathlib.Omega.{arith}
 use lib.ListN.{length, getD, drop, set, length-set}
 use Rattle.basics.specs.Table.{tabulate}
-use Rattle.basics.specs.TableWrite.{write-none, write-read, write-more, write-all}
-use Rattle.field.specs.Decide.{laws}
+use Rattle.basics.specs.laws.TableWrite.{write-none, write-read, write-more, write-all}
+use Rattle.field.specs.laws.Decide.{laws}
 use Rattle.field.specs.Field.{add, multiply}
-use Rattle.linear.specs.Entries.{row-below}
-use Rattle.reduction.specs.Monic.{only-multiple}
-use Rattle.reduction.specs.Steps.{multiple, multipleAt}
+use Rattle.linear.specs.laws.Entries.{row-below}
+use Rattle.reduction.specs.laws.Monic.{only-multiple}
+use Rattle.reduction.specs.laws.Steps.{multiple, multipleAt}
 use Rattle.reduction.proofs.scale.Statement.{statement}
 use Rattle.reduction.proofs.scale.Tie as tie
 

@@ -4,7 +4,7 @@ use Prim.Native.Nat.{_+_, _-_, _≤_}
 use native.Mathlib.Numerals.{add-one}
 use native.Mathlib.Omega.{arith}
 use lib.ListN.{length, getD, set, length-set}
-use Rattle.reduction.specs.Raising.{exchanged, exchanged-none, exchanged-more, exchanged-all}
+use Rattle.reduction.specs.laws.Raise.{exchanged, exchanged-none, exchanged-more, exchanged-all}
 use Rattle.reduction.proofs.swap.Statement.{statement}
 use Rattle.reduction.proofs.swap.Tie as tie
 

@@ -4,7 +4,7 @@ use mathlib.Core.Bool.{true}
 use native.Mathlib.Omega.{arith}
 use borrow.Author.Needs.{needs}
 use borrow.Author.Tests.{not-true, not-false, lt-leb}
-use Rattle.basics.specs.Choice.{holds}
+use Rattle.basics.specs.laws.Choice.{holds}
 use Rattle.field.specs.Field.{isFieldSize}
 use Rattle.refusal.specs.laws.First.{test-refused, test-passed}
 use Rattle.settings.specs.Settings.{rowLengthOk, shapeOk, settingsRefusal}

@@ -13,9 +13,10 @@ use native.Mathlib.Omega.{arith}
 use borrow.Author.Tests.{le-leb, lt-leb, leb-true}
 use lib.Dec.{T, leb, leb→le}
 use mathlib.Core.Logic.{⊎-elim}
-use Rattle.basics.specs.Choice.{pick, is-true, holds}
-use Rattle.basics.specs.Order.{le-or-lt}
-use Rattle.basics.specs.Test.{and-left, and-right}
+use Rattle.basics.specs.Choice.{pick}
+use Rattle.basics.specs.laws.Choice.{is-true, holds}
+use Rattle.basics.specs.laws.Order.{le-or-lt}
+use Rattle.basics.specs.laws.Test.{and-left, and-right}
 use Rattle.refusal.specs.Refusal.{fieldSizeRefusal, shapeRefusal, countRefusal, refuseUnless, unlessRefused}
 use Rattle.refusal.specs.laws.First.{test-refused, test-passed, test-zero, first-none, told-number, told-value}
 use Rattle.field.specs.Field.{isFieldSize}

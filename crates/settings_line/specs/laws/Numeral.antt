@@ -12,7 +12,7 @@ use Prim.Native.Nat.{ℕ, zero, suc, _+_, _*_, _-_, _^_, _/_, _%_, _≤_, _<_}
 use native.Mathlib.Nat.{le-refl, pow-succ', mul-le-mul-right, mul-assoc, lt-of-lt-of-le}
 use native.Mathlib.Omega.{arith}
 use lib.ListN.{length, getD, length-append, List·getD-append}
-use Rattle.basics.specs.Order.{le-or-lt}
+use Rattle.basics.specs.laws.Order.{le-or-lt}
 use Rattle.text.specs.Text.{glyph, numeral}
 use Rattle.text.specs.laws.Numeral.{numeral-digit, numeral-step}
 use Rattle.settings_line.specs.Decimal.{reading}

@@ -17,8 +17,8 @@ use borrow.Author.Tests.{le-leb, lt-leb}
 use lib.Dec.{leb, leb→le}
 use lib.ListN.{length, getD, drop, drop-of-length-le}
 use lib.Seq.{drop-cons}
-use Rattle.basics.specs.Choice.{holds}
-use Rattle.basics.specs.Test.{and-left, and-right}
+use Rattle.basics.specs.laws.Choice.{holds}
+use Rattle.basics.specs.laws.Test.{and-left, and-right}
 use Rattle.settings_line.specs.Decimal.{isDigit, digitRun, reading, greatest, readAt}
 use Rattle.settings_line.specs.declared.decimal.Decimal.the-variants.{Number, None}
 

@@ -13,8 +13,8 @@ use Prim.Native.Nat.{ℕ, suc, _^_, _≤_, _<_}
 use borrow.Author.Tests.{le-leb, eq-eqb}
 use lib.Dec.{T, leb, eqb, leb→le, eqb→eq}
 use lib.ListN.{length, getD, drop}
-use Rattle.basics.specs.Choice.{holds}
-use Rattle.basics.specs.Test.{and-left, and-right}
+use Rattle.basics.specs.laws.Choice.{holds}
+use Rattle.basics.specs.laws.Test.{and-left, and-right}
 use Rattle.text.specs.Text.{numeral}
 use Rattle.text.specs.laws.Numeral.{numeral-length}
 use Rattle.settings_line.specs.Decimal.{isDigit, digitRun, isNumeral}

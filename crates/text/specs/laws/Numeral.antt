@@ -16,7 +16,7 @@ use native.Mathlib.Omega.{arith}
 use lib.ListN.{length, drop, set, length-append}
 use lib.Seq.{lt-length-set, drop-cons, drop-set-lt, getD-set-same, append-snoc}
 use borrow.Author.Tests.{lt-ltb, le-ltb}
-use Rattle.basics.specs.Order.{le-or-lt}
+use Rattle.basics.specs.laws.Order.{le-or-lt}
 use Rattle.text.specs.Text.{glyph, numeralWithin, numeral}
 
 digit-within : (more x : ℕ) → x < 10 → numeralWithin more x ≡ glyph x ∷ []

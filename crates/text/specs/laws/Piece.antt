@@ -16,7 +16,7 @@ use borrow.Author.Tests.{le-leb, lt-leb}
 use lib.Dec.{leb}
 use lib.ListN.{length, take, drop, length-append}
 use lib.Seq.{paste, paste-zero, take-paste, drop-paste, drop-drop, take-length, length-paste}
-use Rattle.basics.specs.Order.{le-or-lt}
+use Rattle.basics.specs.laws.Order.{le-or-lt}
 use Rattle.text.specs.Piece.{fits, placeAfter, bufferAfter, joined, placeWith, bufferWith, Appended, Composed}
 use Rattle.text.specs.Theorems.{piece-fits, fits-piece}
 

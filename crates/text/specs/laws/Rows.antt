@@ -16,11 +16,11 @@ use native.Mathlib.Numerals.{add-one}
 use native.Mathlib.Omega.{arith}
 use lib.ListN.{length, getD, length-append, List·getD-append}
 use lib.Seq.{getD-append-add}
-use Rattle.basics.specs.Flat.{row-fits}
-use Rattle.basics.specs.Order.{le-or-lt}
-use Rattle.basics.specs.Table.{table-at}
-use Rattle.basics.specs.TableLaws.{tabulate-same}
-use Rattle.basics.specs.TableSize.{tabulate-length}
+use Rattle.basics.specs.laws.Flat.{row-fits}
+use Rattle.basics.specs.laws.Order.{le-or-lt}
+use Rattle.basics.specs.laws.Table.{table-at}
+use Rattle.basics.specs.laws.TableLaws.{tabulate-same}
+use Rattle.basics.specs.laws.TableSize.{tabulate-length}
 use Rattle.text.specs.Text.{slash, glyph}
 use Rattle.text.specs.Rows.{rowText, rowsText}
 

@@ -1,7 +1,7 @@
 -- `counts::lookup::count` meets its contract: each arm by computing the list's entry at its key.
 -- Made by tools/tables.
-use Rattle.basics.specs.LookUp.{arm, past}
-use Rattle.basics.specs.Ragged.{ragged}
+use Rattle.basics.specs.laws.LookUp.{arm, past}
+use Rattle.basics.specs.laws.Ragged.{ragged}
 use Rattle.basics.specs.Table.{tabulate}
 use Rattle.counts.specs.Gaussian.{gaussian, entry}
 use Rattle.counts.specs.laws.Halves.{halves}

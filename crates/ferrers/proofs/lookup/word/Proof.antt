@@ -1,9 +1,9 @@
 -- `ferrers::lookup::word` meets its contract: each arm by computing the list's entry at its key.
 -- Made by tools/tables.
-use Rattle.basics.specs.LookUp.{arm, past}
-use Rattle.basics.specs.Ragged.{ragged}
-use Rattle.ferrers.specs.BoxTable.{level, nextRows, addRows, shifted}
-use Rattle.ferrers.specs.Packed.{keptCounts, packFour, words}
+use Rattle.basics.specs.laws.LookUp.{arm, past}
+use Rattle.basics.specs.laws.Ragged.{ragged}
+use Rattle.ferrers.specs.laws.BoxTable.{level, nextRows, addRows, shifted}
+use Rattle.ferrers.specs.laws.PackedCounts.{keptCounts, packFour, words}
 use Rattle.ferrers.proofs.lookup.word.Statement.{statement}
 use Rattle.ferrers.proofs.lookup.word.Tie as tie
 

@@ -9,8 +9,8 @@ use lib.ListN.{length, take, drop, replicate, length-take, length-append}
 use lib.Seq.{take-at}
 use Rattle.basics.specs.Choice.{pick}
 use Rattle.matrix.specs.Matrix.{identifying, Reduced}
-use Rattle.matrix.specs.Decided.{reduced-true}
-use Rattle.extended.specs.Ranked.{drawnExtended}
+use Rattle.matrix.specs.laws.Tests.{reduced-true}
+use Rattle.extended.specs.Drawn.{drawnExtended}
 use Rattle.ferrers.specs.Ferrers.{ferrersIndex}
 use Rattle.text.specs.Text.{comma, lineFeed, numeral}
 use Rattle.text.specs.Piece.{joined}

@@ -5,9 +5,9 @@ use native.Mathlib.Omega.{arith}
 use lib.ListN.{length}
 use Rattle.settings.specs.laws.Accepted.{Accepted}
 use Rattle.settings.specs.laws.Accepted.{accepted}
-use Rattle.matrix.specs.Decided.{entries-below}
+use Rattle.matrix.specs.laws.Tests.{entries-below}
 use Rattle.linear.specs.Span.{Row}
-use Rattle.linear.specs.Every.{all-of}
+use Rattle.linear.specs.laws.Every.{all-of}
 use Rattle.receiver.specs.Receiver.{used}
 use Rattle.receiver.specs.laws.Sound.{Sound, sound}
 use Rattle.receiver.specs.laws.TakenIn.{lent-fits, lent-size, lent-kept, lent-held, lent-leads, taken-raised, taken-held}

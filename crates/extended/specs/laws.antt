@@ -1,0 +1,10 @@
+-- Lemmas; no part of the meaning.
+pub mod ShapeRank
+pub mod ShapeCount
+pub mod Formula
+pub mod Order
+pub mod Theorems
+pub mod Part
+pub mod ColumnTerm
+pub mod Unrank
+pub mod VectorBits

@@ -1,0 +1,27 @@
+-- Lemmas; no part of the meaning.
+pub mod Every
+pub mod Scalars
+pub mod FieldSpan
+pub mod Echelon
+pub mod Within
+pub mod EchelonRows
+pub mod Residual
+pub mod PlaceRow
+pub mod Element
+pub mod Lead
+pub mod Entries
+pub mod RowLead
+pub mod Coefficients
+pub mod Mixture
+pub mod FlatMatrix
+pub mod ReducedRows
+pub mod Unique
+pub mod Elimination
+pub mod InsertSteps
+pub mod Insert
+pub mod InsertMany
+pub mod ReducedOf
+pub mod SameMatrix
+pub mod OneMore
+pub mod FlatRows
+pub mod NoChange

@@ -1,0 +1,25 @@
+-- Lemmas; no part of the meaning.
+pub mod Tests
+pub mod Lead
+pub mod LeadLoop
+pub mod RowReduced
+pub mod Shape
+pub mod TopValue
+pub mod WriteColumn
+pub mod Flatten
+pub mod Corner
+pub mod Peel
+pub mod ShapeLaws
+pub mod Cell
+pub mod ShapeMatrix
+pub mod PeelPlace
+pub mod Column
+pub mod DrawColumns
+pub mod Values
+pub mod Vector
+pub mod VectorRows
+pub mod Bits
+pub mod Pivots
+pub mod ReducedVector
+pub mod BitSum
+pub mod Walk

@@ -1,0 +1,72 @@
+-- A number given by its bits; no part of the meaning.
+--   bits n b        == the number whose bit i is b i, for i below n
+--   bits-below      == it is below 2^n
+--   bits-low        == its j lowest bits are those of bits j b
+--   bits-at         == its bit j is b j
+--   bits-ones       == it has as many ones as b holds below n
+-- Assumes nothing.
+use mathlib.Core.Path.{_≡_, refl, ap, ap₂, _∙_, sym}
+use mathlib.Core.Bool.{Bool, true, false}
+use Prim.Native.Nat.{ℕ, zero, suc, _+_, _*_, _-_, _^_, _/_, _%_, _<_, _≤_}
+use native.Mathlib.Nat.{add-comm, mul-comm, mul-left-comm, zero-lt-suc, pow-succ', add-sub-of-le}
+use native.Mathlib.Numerals.{add-one}
+use native.Mathlib.Omega.{arith}
+use lib.Count.{ones, ones-cat}
+use lib.Arith.{digits-lt}
+use lib.Pow.{pow-add, high, low, field}
+use Rattle.basics.specs.Sum.{sum, bit}
+use Rattle.basics.specs.laws.SumLaws.{sum-same, sum-split, sum-times}
+
+abbrev pub bits : ℕ → (ℕ → Bool) → ℕ
+bits n b = sum n (λ i. bit (b i) * 2 ^ i)
+
+bit-below : (b : Bool) → bit b < 2
+bit-below true = omega arith
+bit-below false = omega arith
+
+bits-next : (n : ℕ) (b : ℕ → Bool) → bits (suc n) b ≡ bit (b n) * 2 ^ n + bits n b
+unfolding sum
+bits-next n b = add-comm (bits n b) (bit (b n) * 2 ^ n)
+
+pub bits-below : (n : ℕ) (b : ℕ → Bool) → bits n b < 2 ^ n
+unfolding sum
+bits-below zero b = zero-lt-suc 0
+bits-below (suc n) b = rw (pow-succ' 2 n, bits-next n b) (digits-lt (bit-below (b n)) (bits-below n b))
+
+-- the bits from j on, and those below
+bits-split : (j r : ℕ) (b : ℕ → Bool) → bits (j + r) b ≡ bits r (λ i. b (j + i)) * 2 ^ j + bits j b
+bits-split j r b =
+    sum-split j r (λ i. bit (b i) * 2 ^ i)
+    ∙ add-comm (bits j b) (sum r (λ i. bit (b (j + i)) * 2 ^ (j + i)))
+    ∙ ap (λ x. x + bits j b)
+    (sum-same r (λ i. bit (b (j + i)) * 2 ^ (j + i)) (λ i. 2 ^ j * (bit (b (j + i)) * 2 ^ i))
+    (λ i h. rw (pow-add 2 j i) (mul-left-comm (bit (b (j + i))) (2 ^ j) (2 ^ i)))
+    ∙ sum-times r (2 ^ j) (λ i. bit (b (j + i)) * 2 ^ i)
+    ∙ mul-comm (2 ^ j) (bits r (λ i. b (j + i))))
+
+pub bits-low : (n j : ℕ) (b : ℕ → Bool) → j ≤ n → bits n b % 2 ^ j ≡ bits j b
+bits-low n j b h =
+    ap (λ x. bits x b % 2 ^ j) (sym (add-sub-of-le h))
+    ∙ ap (λ x. x % 2 ^ j) (bits-split j (n - j) b)
+    ∙ low (bits (n - j) (λ i. b (j + i))) j (bits-below j b)
+
+pub bits-at : (n j : ℕ) (b : ℕ → Bool) → j < n → bits n b / 2 ^ j % 2 ≡ bit (b j)
+bits-at n j b h =
+    sym (field (bits n b) 1 j)
+    ∙ ap (λ e. bits n b % 2 ^ e / 2 ^ j) (add-comm 1 j ∙ add-one j)
+    ∙ ap (λ x. x / 2 ^ j) (bits-low n (suc j) b h ∙ bits-next j b)
+    ∙ high (bit (b j)) j (bits-below j b)
+
+ones-bit : (b : Bool) → ones (bit b) ≡ bit b
+unfolding ones
+ones-bit true = refl
+ones-bit false = refl
+
+pub bits-ones : (n : ℕ) (b : ℕ → Bool) → ones (bits n b) ≡ sum n (λ i. bit (b i))
+unfolding sum ones
+bits-ones zero b = refl
+bits-ones (suc n) b =
+    ap ones (bits-next n b)
+    ∙ ones-cat n (bit (b n)) (bits n b) (bits-below n b)
+    ∙ ap₂ (λ x y. x + y) (ones-bit (b n)) (bits-ones n b)
+    ∙ add-comm (bit (b n)) (sum n (λ i. bit (b i)))
