@@ -82,7 +82,7 @@ static struct proof begin_proof(const char *crate, const char *function, const c
     struct proof p = {begin(path), list, 0};
     fprintf(p.file, "-- `%s::lookup::%s` meets its contract: each arm by computing the list's entry at its key.\n", crate, function);
     fprintf(p.file, "-- Made by tools/tables.\n");
-    fprintf(p.file, "use Rattle.basics.specs.LookUp.{arm, past}\n%s", uses);
+    fprintf(p.file, "use Rattle.basics.specs.laws.LookUp.{arm, past}\n%s", uses);
     fprintf(p.file, "use Rattle.%s.proofs.lookup.%s.Statement.{statement}\n", crate, function);
     fprintf(p.file, "use Rattle.%s.proofs.lookup.%s.Tie as tie\n\n", crate, function);
     fprintf(p.file, "pub %s-spec : {M : Type 1} → statement M\nunfolding %s\n", function, unfolding);
@@ -171,7 +171,7 @@ static void write_counts_look_up(void)
           "\n// N_q_n_k is the table's entry for q, n and k.", file);
     each_half(name_half, file, NULL);
     struct proof proof = begin_proof("counts", "count", "halves",
-        "use Rattle.basics.specs.Ragged.{ragged}\n"
+        "use Rattle.basics.specs.laws.Ragged.{ragged}\n"
         "use Rattle.basics.specs.Table.{tabulate}\n"
         "use Rattle.counts.specs.Gaussian.{gaussian, entry}\n"
         "use Rattle.counts.specs.laws.Halves.{halves}\n",
@@ -182,7 +182,7 @@ static void write_counts_look_up(void)
     end_function(file);
     end_proof(&proof);
     proof = begin_proof("counts", "power", "powers",
-        "use Rattle.basics.specs.Ragged.{ragged}\n"
+        "use Rattle.basics.specs.laws.Ragged.{ragged}\n"
         "use Rattle.basics.specs.Table.{tabulate}\n"
         "use Rattle.counts.specs.laws.Powers.{powers}\n",
         "powers ragged tabulate");
@@ -209,11 +209,11 @@ static void write_diagrams_look_up(void)
           "// stack. Made by tools/tables.\n"
           "ghost use mathlib.Core.Path.{_≡_};\n"
           "ghost use lib.ListN.{getD};\n"
-          "ghost use Rattle.ferrers.specs.Packed.{words, begins};\n", file);
+          "ghost use Rattle.ferrers.specs.laws.PackedCounts.{words, begins};\n", file);
     struct proof proof = begin_proof("ferrers", "word", "words",
-        "use Rattle.basics.specs.Ragged.{ragged}\n"
-        "use Rattle.ferrers.specs.BoxTable.{level, nextRows, addRows, shifted}\n"
-        "use Rattle.ferrers.specs.Packed.{keptCounts, packFour, words}\n",
+        "use Rattle.basics.specs.laws.Ragged.{ragged}\n"
+        "use Rattle.ferrers.specs.laws.BoxTable.{level, nextRows, addRows, shifted}\n"
+        "use Rattle.ferrers.specs.laws.PackedCounts.{keptCounts, packFour, words}\n",
         "words packFour keptCounts ragged level nextRows addRows shifted");
     begin_function(file, "word", "words",
         "Four partition counts of sixteen bits each, the first lowest.");
@@ -235,10 +235,10 @@ static void write_diagrams_look_up(void)
     end_function(file);
     end_proof(&proof);
     proof = begin_proof("ferrers", "begin", "begins",
-        "use Rattle.basics.specs.Ragged.{ragged}\n"
+        "use Rattle.basics.specs.laws.Ragged.{ragged}\n"
         "use Rattle.basics.specs.Sum.{sum}\n"
         "use Rattle.basics.specs.Table.{tabulate}\n"
-        "use Rattle.ferrers.specs.Packed.{begins}\n",
+        "use Rattle.ferrers.specs.laws.PackedCounts.{begins}\n",
         "begins ragged tabulate sum");
     begin_function(file, "begin", "begins",
         "Where the counts of a box begin; the boxes in the order of their row length and shorter side.");

@@ -95,7 +95,8 @@ fn exported_refusal(q: u64, n: u64, k: u64, t: u64, row_count: u64, rows: &[u8],
 }
 
 // Receive for C: the answer is a lent buffer of nine bytes, the index, least byte first, then the dimension. Refuses as Receive does, and 4
-// if the answer isn't nine bytes, after the rows' length. 8 and 9 leave index bytes of 0 and the dimension; other refusals leave the answer.
+// if the answer isn't nine bytes, after the rows' length. 8 and 9 leave index bytes of 0 and the dimension; other refusals leave the
+// answer.
 #[no_mangle]
 pub extern "C" fn pandrwyg_receive(
     q: u64,

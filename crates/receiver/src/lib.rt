@@ -7,7 +7,8 @@ ghost use Rattle.basics.specs.Choice.{pick};
 ghost use Rattle.settings.specs.Settings.{settingsRefusal};
 ghost use Rattle.matrix.specs.Matrix.{identifying};
 ghost use Rattle.receive.specs.Answer.{Told};
-ghost use Rattle.receiver.specs.Receiver.{startOf, startNumber, used, wellFormed, takeRefusal, takenIn, takeOf, takeNumber, takeRaised};
+ghost use Rattle.receiver.specs.Receiver.{startOf, startNumber, used, wellFormed, takeRefusal, takenIn, takeOf, takeNumber};
+ghost use Rattle.receiver.specs.Receiver.{takeRaised};
 ghost use Rattle.receiver.specs.Receiver.{lentReceiver, lentAnswer, closeRefusal, closeOf};
 ghost use Rattle.receiver.specs.laws.TakeAccepted.{TakeAccepted};
 use receive::Received;
@@ -214,7 +215,8 @@ impl Receiver {
         }
     }
 
-    // Take: the receiver with the row taken in, and whether the dimension grew. Refuses 14, 4 (the row is not n bytes), 6, and then hands the
+    // Take: the receiver with the row taken in, and whether the dimension grew. Refuses 14, 4 (the row is not n bytes), 6, and then hands
+    // the
     // receiver back unchanged.
     pub fn take(self, row: &[u8]) -> Taken
         ensures { λ r. ⌜ (r ≡ takeOf self (now (row .entry)))

@@ -63,7 +63,8 @@ callNumber r (close t) = receivedNumber (closeOf r t)
 
 pub data Unforged : Receiver → List Call → Type 0 where
   none : {r : Receiver} → Unforged r []
-  more : {r : Receiver} {c : Call} {cs : List Call} → (callNumber r c ≡ receiverRefusal → ⊥) → Unforged (after r (c ∷ [])) cs → Unforged r (c ∷ cs)
+  more : {r : Receiver} {c : Call} {cs : List Call} → (callNumber r c ≡ receiverRefusal → ⊥) → Unforged (after r (c ∷ [])) cs
+      → Unforged r (c ∷ cs)
 
 unfoldable pub offered : List Call → List (List ℕ)
 offered [] = []

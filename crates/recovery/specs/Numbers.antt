@@ -1,4 +1,5 @@
--- Demand 2, as the calls answer it, for settings and a numbering that are accepted. The user: "A reduced matrix gets the extended or Ferrers
+-- Demand 2, as the calls answer it, for settings and a numbering that are accepted. The user: "A reduced matrix gets the extended or
+-- Ferrers
 -- index that Silberstein and Etzion define, and an index below the count gets the matrix with that index. Received rows are numbered by the
 -- one reduced matrix that spans the same space."
 --   Numbers q n k t    == Number of a reduced matrix is its index by the numbering's formula; Draw of that index leaves the matrix; Number of
@@ -43,7 +44,8 @@ use Rattle.receiver.specs.laws.Held.{settings-laws}
 pub record Numbers (q n k t : ℕ) : Type 0 where
   pub by-formula : (m : List ℕ) → Reduced q n k m → numberOf q n k t m ≡ Done (indexIn t (indexOf q n k t m))
   pub drawn-back : (m : List ℕ) → Reduced q n k m → (b : List ℕ) → Buffer n k b → drawBuffer q n k t (indexOf q n k t m) b ≡ m
-  pub numbered-back : (i : ℕ) → i < gaussian q n k → (b : List ℕ) → Buffer n k b → numberOf q n k t (drawBuffer q n k t i b) ≡ Done (indexIn t i)
+  pub numbered-back : (i : ℕ) → i < gaussian q n k → (b : List ℕ) → Buffer n k b
+      → numberOf q n k t (drawBuffer q n k t i b) ≡ Done (indexIn t i)
   pub converted : (to : ℕ) → isNumbering to ≡ true → (m : List ℕ) → Reduced q n k m
       → convertOf q n k t to (indexOf q n k t m) ≡ Done (indexIn to (indexOf q n k to m))
   pub received : (rows : List (List ℕ)) → All (Row q n) rows → length rows ≤ mostRows

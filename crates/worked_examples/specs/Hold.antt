@@ -23,10 +23,12 @@ use Rattle.extended.specs.Extended.{ones, extendedTermAt, extendedTerm, extende
 use Rattle.extended.specs.Drawn.{extendedShape, drawnExtended}
 use Rattle.extended.specs.laws.ShapeRank.{extendedRank}
 use Rattle.ferrers.specs.Partitions.{partitionsRow, partitions}
-use Rattle.ferrers.specs.Ferrers.{freeFrom, freeColumns, dots, diagram, total, size, dottedFrom, tableauOf, tableau, tableauValue, diagramTerm, diagramPlace, largerDiagrams, ferrersIndex}
+use Rattle.ferrers.specs.Ferrers.{freeFrom, freeColumns, dots, diagram, total, size, dottedFrom, tableauOf, tableau, tableauValue}
+use Rattle.ferrers.specs.Ferrers.{diagramTerm, diagramPlace, largerDiagrams, ferrersIndex}
 use Rattle.ferrers.specs.Drawn.{boxCount, diagramShape, sizedShape, ferrersShape, drawnFerrers}
 use Rattle.ferrers.specs.laws.ShapeRank.{shapeSize, shapePlace, shapeTableau, ferrersRank}
-use Rattle.linear.specs.Eliminate.{leadOf, eliminate, residue, monic, place, insertResidue, insertRow, insertRows, reducedRows, join, reducedOf, dimension}
+use Rattle.linear.specs.Eliminate.{leadOf, eliminate, residue, monic, place, insertResidue, insertRow, insertRows, reducedRows, join}
+use Rattle.linear.specs.Eliminate.{reducedOf, dimension}
 use Rattle.linear.specs.Span.{combinationAt, combination, InSpan, SameSpan, rowsOf, HasDimension}
 use Rattle.refusal.specs.Refusal.{refuseUnless, first, unlessRefused}
 use Rattle.numbering.specs.Numbering.{isNumbering, numberingOf, choiceRefusal}

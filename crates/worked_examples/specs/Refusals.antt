@@ -6,7 +6,8 @@ use Prim.Native.Nat.{ℕ}
 use lib.ListN.{replicate}
 use Rattle.receiver.specs.declared.Receiver.{Receiver}
 use Rattle.worked_examples.specs.Answer.{Example, _⇒_, lent, receiver, image, paper}
-use Rattle.worked_examples.specs.Answer.{count, draw, number, convert, reduce, receive, receiveC, start, takeValue, takeLent, close, list, write}
+use Rattle.worked_examples.specs.Answer.{count, draw, number, convert, reduce, receive, receiveC, start, takeValue, takeLent, close}
+use Rattle.worked_examples.specs.Answer.{list, write}
 
 -- receivers of 2,3,2 that hold no row, the row 110, the rows 101/011, and all three unit rows; one of 2,3,1 that holds 010
 abbrev noRows : Receiver

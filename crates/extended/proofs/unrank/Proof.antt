@@ -3,7 +3,8 @@ use mathlib.Core.Path.{ap, _∙_, sym}
 use Prim.Native.Nat.{_-_, _<_}
 use native.Mathlib.Omega.{arith}
 use lib.ListN.{replicate}
-use Rattle.extended.specs.laws.Unrank.{Unranking, unranking-start, unranking-end, free-asked, write-asked, pivot-asked, each-positive, unranking-free, rows-positive, unranking-pivot}
+use Rattle.extended.specs.laws.Unrank.{Unranking, unranking-start, unranking-end, free-asked, write-asked, pivot-asked, each-positive}
+use Rattle.extended.specs.laws.Unrank.{unranking-free, rows-positive, unranking-pivot}
 use Rattle.extended.proofs.unrank.Statement.{statement}
 use Rattle.extended.proofs.unrank.Tie as tie
 

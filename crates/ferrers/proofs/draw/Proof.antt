@@ -5,7 +5,8 @@ use Prim.Native.Nat.{_-_, _≤_}
 use native.Mathlib.Omega.{arith}
 use lib.ListN.{replicate}
 use Rattle.matrix.specs.Shape.{Shape}
-use Rattle.ferrers.specs.laws.WriteMatrix.{Shaped, Unranking, unranking-start, unranking-end, write-asked, pivot-asked, unranking-free, unranking-pivot}
+use Rattle.ferrers.specs.laws.WriteMatrix.{Shaped, Unranking, unranking-start, unranking-end, write-asked, pivot-asked}
+use Rattle.ferrers.specs.laws.WriteMatrix.{unranking-free, unranking-pivot}
 use Rattle.ferrers.proofs.draw.Statement.{statement}
 use Rattle.ferrers.proofs.draw.Tie as tie
 

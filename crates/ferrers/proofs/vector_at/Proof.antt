@@ -1,7 +1,8 @@
 -- `ferrers::vector_at` meets its contract: v holds the bits of the columns passed, and the others are those of the dots and the place that
 -- are left.
 use native.Mathlib.Omega.{arith}
-use Rattle.ferrers.specs.laws.VectorAt.{Telling, telling-start, telling-end, free-next, rows-left, bit-fits, telling-free, telling-pivot}
+use Rattle.ferrers.specs.laws.VectorAt.{Telling, telling-start, telling-end, free-next, rows-left, bit-fits, telling-free}
+use Rattle.ferrers.specs.laws.VectorAt.{telling-pivot}
 use Rattle.ferrers.proofs.vector_at.Statement.{statement}
 use Rattle.ferrers.proofs.vector_at.Tie as tie
 

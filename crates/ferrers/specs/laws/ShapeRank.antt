@@ -1,4 +1,5 @@
--- The Ferrers numbering on peeled shapes, as recursions that compute; their theorems tie them to formulas (12) and (14): laws; no part of the meaning.
+-- The Ferrers numbering on peeled shapes, as recursions that compute; their theorems tie them to formulas (12) and (14): laws; no part of
+-- the meaning.
 --   shapeSize s k          == the number of dots
 --   shapePlace s k n m     == the place of the diagram among those of its size m
 --   shapeTableau q s k     == {x}

@@ -75,7 +75,8 @@ module _ (q : ℕ) (laws : Laws q) (n : ℕ) where
   Coefficients rows v =
       (cs : List ℕ) × (length cs ≡ length rows) × All (λ c. c < q) cs × ((j : ℕ) → element q laws (combinationAt q cs rows j) ≡ v j)
 
-  coefficients : {rows : List (List ℕ)} {v : ℕ → Fin q} → All (Row q n) rows → Spanned (scalars q laws) (at q laws) rows v → Coefficients rows v
+  coefficients : {rows : List (List ℕ)} {v : ℕ → Fin q} → All (Row q n) rows → Spanned (scalars q laws) (at q laws) rows v
+      → Coefficients rows v
   unfolding Coefficients combinationAt
   coefficients none (nothing z) = ([], refl, none, λ j. element-zero q laws ∙ sym (z j))
   coefficients {v = v} (more {x = r} {xs = rows} h hs) (adding c w s e) = step (coefficients hs s)

@@ -44,7 +44,8 @@ module _ {F A : Type 0} (K : Scalars F) (at : A → ℕ → F) where
       adding (a ⊗ c ⊕ b ⊗ d) (λ j. a ⊗ u j ⊕ b ⊗ v j) (spanned-mix (λ j. a ⊗ u j ⊕ b ⊗ v j) a b su sv (λ j. refl))
       (λ j. e j ∙ ap₂ (λ x y. a ⊗ x ⊕ b ⊗ y) (eu j) (ev j) ∙ mixed-sum a b c d (at r j) (u j) (v j))
 
-  pub spanned-scale : {rows : List A} {u : ℕ → F} (w : ℕ → F) (c : F) → Spanned K at rows u → ((j : ℕ) → w j ≡ c ⊗ u j) → Spanned K at rows w
+  pub spanned-scale : {rows : List A} {u : ℕ → F} (w : ℕ → F) (c : F) → Spanned K at rows u → ((j : ℕ) → w j ≡ c ⊗ u j)
+      → Spanned K at rows w
   spanned-scale {u = u} w c s e =
       spanned-mix w c nought s s (λ j. e j ∙ sym (ap (λ x. c ⊗ u j ⊕ x) (nought-times K (u j)) ∙ plus-nought (c ⊗ u j)))
 

@@ -97,7 +97,8 @@ module _ (n : ℕ) where
       let e : n + k * n ≡ suc k * n = omega arith in
       ap (λ (x : List ℕ). take n m ++ x) (join-taken (drop n m) k) ∙ sym (take-add n (k * n) m) ∙ ap (λ x. take x m) e
 
-  pub rows-joined : {rows : List (List ℕ)} (rest : List ℕ) → All (λ r. length r ≡ n) rows → rowsOf n (length rows) (join rows ++ rest) ≡ rows
+  pub rows-joined : {rows : List (List ℕ)} (rest : List ℕ) → All (λ r. length r ≡ n) rows
+      → rowsOf n (length rows) (join rows ++ rest) ≡ rows
   unfolding rowsOf join
   rows-joined rest none = refl
   rows-joined rest (more {x = r} {xs = rows} h hs) =

@@ -95,7 +95,8 @@ module _ (q : ℕ) (laws : Laws q) (n : ℕ) where
     place-rows none = more hw none
     place-rows (more {x = r} {xs = rows} h hs) = cases (place-rows hs) (le-or-lt (leadOf n w) (leadOf n r))
       where
-        cases : All (Row q n) (place q n rows w) → (leadOf n w ≤ leadOf n r) ⊎ (leadOf n r < leadOf n w) → All (Row q n) (place q n (r ∷ rows) w)
+        cases : All (Row q n) (place q n rows w) → (leadOf n w ≤ leadOf n r) ⊎ (leadOf n r < leadOf n w)
+            → All (Row q n) (place q n (r ∷ rows) w)
         cases ih (inl g) = subst (All (Row q n)) (sym (place-here q n r w rows g)) (more hw (more h hs))
         cases ih (inr g) = subst (All (Row q n)) (sym (place-above q n r w rows g)) (more (eliminate-row q laws n w r hw h) ih)
 

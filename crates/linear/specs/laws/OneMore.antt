@@ -19,7 +19,8 @@ use Rattle.linear.specs.laws.Insert.{residue-zero, insert-held, insert-r
 use Rattle.linear.specs.laws.InsertMany.{Kept, insertRows-append}
 use Rattle.linear.specs.laws.ReducedOf.{reducedRows-kept, reducedRows-span}
 
-pub reducedRows-more : (q n : ℕ) (rows : List (List ℕ)) (v : List ℕ) → reducedRows q n (rows ++ (v ∷ [])) ≡ insertRow q n (reducedRows q n rows) v
+pub reducedRows-more : (q n : ℕ) (rows : List (List ℕ)) (v : List ℕ)
+    → reducedRows q n (rows ++ (v ∷ [])) ≡ insertRow q n (reducedRows q n rows) v
 unfolding reducedRows insertRows
 reducedRows-more q n rows v = insertRows-append q n [] rows (v ∷ [])
 

@@ -58,7 +58,8 @@ module _ (q : ℕ) (laws : Laws q) (n : ℕ) where
       same : (length rs ≡ dimension q n rs) × (join rs ≡ reducedOf q n rs)
       same = reducedOf-unique q laws n rs h (length rs) (join rs) R (λ v. rw split Iff·rfl)
 
-  pub within-dimension : (rows : List (List ℕ)) → All (Row q n) rows → (k : ℕ) (m : List ℕ) → Reduced q n k m → All (InSpan q n (rowsOf n k m)) rows
+  pub within-dimension : (rows : List (List ℕ)) → All (Row q n) rows → (k : ℕ) (m : List ℕ) → Reduced q n k m
+      → All (InSpan q n (rowsOf n k m)) rows
       → (dimension q n rows ≤ k) × (dimension q n rows ≡ k → reducedOf q n rows ≡ m)
   unfolding SameSpan
   within-dimension rows h k m R each =

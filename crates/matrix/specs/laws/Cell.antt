@@ -21,7 +21,8 @@ use Rattle.basics.specs.laws.TableSize.{tabulate-length}
 use Rattle.basics.specs.laws.TableValue.{table-digits, table-value-same}
 use Rattle.matrix.specs.laws.ShapeLaws.{peeled-same, peeled-valid}
 use Rattle.matrix.specs.Shape.{Shape, free, pivot, cell}
-use Rattle.matrix.specs.laws.Shape.{topValue, Peeled, peeled-empty, peeled-free, peeled-pivot, Valid, valid-empty, valid-free, valid-pivot}
+use Rattle.matrix.specs.laws.Shape.{topValue, Peeled, peeled-empty, peeled-free, peeled-pivot, Valid, valid-empty, valid-free}
+use Rattle.matrix.specs.laws.Shape.{valid-pivot}
 
 pub topValue-digit : (q : ℕ) (A : ℕ → ℕ → ℕ) (k c i : ℕ) → ((a : ℕ) → a < k → A a c < q) → i < k
     → topValue q A k c / q ^ (pred k - i) % q ≡ A i c

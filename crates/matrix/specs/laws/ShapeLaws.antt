@@ -10,7 +10,8 @@ use native.Mathlib.Nat.{le-refl}
 use native.Mathlib.Omega.{arith}
 use Rattle.basics.specs.laws.TableValue.{table-value-below, table-value-same}
 use Rattle.matrix.specs.Shape.{Shape, free, pivot}
-use Rattle.matrix.specs.laws.Shape.{topValue, Peeled, peeled-empty, peeled-free, peeled-pivot, Valid, valid-empty, valid-free, valid-pivot}
+use Rattle.matrix.specs.laws.Shape.{topValue, Peeled, peeled-empty, peeled-free, peeled-pivot, Valid, valid-empty, valid-free}
+use Rattle.matrix.specs.laws.Shape.{valid-pivot}
 
 pub topValue-below : (q : ℕ) (A : ℕ → ℕ → ℕ) (k c : ℕ) → ((i : ℕ) → i < k → A i c < q) → topValue q A k c < q ^ k
 unfolding topValue

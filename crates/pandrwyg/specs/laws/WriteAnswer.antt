@@ -26,7 +26,8 @@ pub record Writing (index : ℕ) (now : List ℕ) (rest i : ℕ) : Type 0 where
 pub writing-start : (index : ℕ) (now : List ℕ) → length now ≡ 9 → Writing index now index 0
 writing-start index now e = record { within = omega arith; sized = e; bytes = refl }
 
-pub writing-more : (index : ℕ) (now : List ℕ) (rest i : ℕ) → i < 8 → Writing index now rest i → Writing index (set now i (rest % 256)) (rest / 256) (i + 1)
+pub writing-more : (index : ℕ) (now : List ℕ) (rest i : ℕ) → i < 8 → Writing index now rest i
+    → Writing index (set now i (rest % 256)) (rest / 256) (i + 1)
 unfolding bytesOf
 writing-more index now rest i h w =
     let byte = rest % 256 in

@@ -50,7 +50,8 @@ module _ (q n r : ℕ) (input : List ℕ) (field : T (isFieldSize q)) (sized : l
       ∙ ap (take (d * n)) (append-assoc m (replicate (n * n - length m) 0) rest)
       ∙ take-at m (replicate (n * n - length m) 0 ++ rest) (d * n) (received-reduced .size ∙ ap (λ x. x * n) (sym e))
 
-  pub received-pivots : (d : ℕ) (pivots : List ℕ) → d ≡ dimension q n (rowsOf n r input) → take d pivots ≡ leads n (reducedRows q n (rowsOf n r input))
+  pub received-pivots : (d : ℕ) (pivots : List ℕ) → d ≡ dimension q n (rowsOf n r input)
+      → take d pivots ≡ leads n (reducedRows q n (rowsOf n r input))
       → (i : ℕ) → i < d → getD pivots i 0 ≡ pivot n (reducedOf q n (rowsOf n r input)) i
   unfolding dimension reducedOf
   received-pivots d pivots e known i h =

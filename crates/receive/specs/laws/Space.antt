@@ -32,7 +32,8 @@ module _ (q n k t d : ℕ) (m : List ℕ) where
   space-whole l h = rw (le-ltb d k l, le-ltb k d h)
 
   -- the answer x, whose number is y
-  told : (x : Received) (y r : ℕ) → r ≡ 0 → spaceRefusal k d ≡ y → receivedNumber x ≡ y → receivedIndex x ≡ unlessRefused y (indexOf q n k t m) 0
+  told : (x : Received) (y r : ℕ) → r ≡ 0 → spaceRefusal k d ≡ y → receivedNumber x ≡ y
+      → receivedIndex x ≡ unlessRefused y (indexOf q n k t m) 0
       → receivedDimension k x ≡ d → Told q n k t d m r x
   told x y r z s number index dimension =
       let passed : first (r ∷ spaceRefusal k d ∷ []) ≡ y = first-passed _ _ z ∙ first-one _ ∙ s in

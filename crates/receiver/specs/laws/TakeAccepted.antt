@@ -21,7 +21,8 @@ use Rattle.numbering.specs.Numbering.{isNumbering}
 use Rattle.receive.specs.Answer.{Told}
 use Rattle.receive.specs.laws.Space.{space-told, refused-told}
 use Rattle.receive.specs.declared.Received.{Received}
-use Rattle.receiver.specs.Receiver.{used, wellFormed, holding, takeRefusal, takenIn, takeOf, closeRefusal, closeOf, takeNumber, takeRaised}
+use Rattle.receiver.specs.Receiver.{used, wellFormed, holding, takeRefusal, takenIn, takeOf, closeRefusal, closeOf, takeNumber}
+use Rattle.receiver.specs.Receiver.{takeRaised}
 use Rattle.receiver.specs.declared.Receiver.{Receiver}
 use Rattle.receiver.specs.declared.Taken.{Taken}
 use Rattle.receiver.specs.declared.TakeAnswer.the-variants.{Raised, Held, Refused}

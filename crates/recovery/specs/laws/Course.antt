@@ -23,7 +23,8 @@ use Rattle.receiver.specs.Receiver.{wellFormed, holding, takeOf, takeNumber, cl
 use Rattle.receiver.specs.laws.TakeAccepted.{close-unrefused}
 use Rattle.receiver.specs.declared.Taken.{Taken}
 use Rattle.receive.specs.declared.Received.the-variants.{Done, TooFew, TooMany}
-use Rattle.recovery.specs.Calls.{Call, takeValue, takeLent, close, after, accepted, Unforged, none as nothing, more as further, offered, fitting}
+use Rattle.recovery.specs.Calls.{Call, takeValue, takeLent, close, after, accepted, Unforged, none as nothing, more as further}
+use Rattle.recovery.specs.Calls.{offered, fitting}
 use Rattle.recovery.specs.laws.FittingRows.{fits, fits-row}
 use Rattle.recovery.specs.laws.HoldRows.{well-formed-holding, take-fits, take-misfits, take-taken, take-kept}
 
@@ -48,7 +49,8 @@ space-number q n k t d m = cases (ltb d k) (ltb k d)
 
 module _ (q n k : ℕ) (settings : settingsRefusal q n k ≡ 0) where
   -- Close is not refused 14
-  close-unforged : (rows : List (List ℕ)) → All (Row q n) rows → (t : ℕ) → receivedNumber (closeOf (holding q n k rows) t) ≡ receiverRefusal → ⊥
+  close-unforged : (rows : List (List ℕ)) → All (Row q n) rows → (t : ℕ) → receivedNumber (closeOf (holding q n k rows) t) ≡ receiverRefusal
+      → ⊥
   unfolding closeOf closeRefusal
   close-unforged rows h t = cases (isNumbering t) refl
     where
@@ -73,7 +75,8 @@ module _ (q n k : ℕ) (settings : settingsRefusal q n k ≡ 0) where
 
   -- a row that fits, and one that does not
   step-fits : (rows : List (List ℕ)) (row : List ℕ) (cs : List Call) (t : Taken) → fits q n row ≡ true
-      → t .receiver ≡ holding q n k (rows ++ (row ∷ [])) → takeNumber (t .answer) ≡ 0 → Course q n k (rows ++ (row ∷ [])) cs → Step rows row cs t
+      → t .receiver ≡ holding q n k (rows ++ (row ∷ [])) → takeNumber (t .answer) ≡ 0 → Course q n k (rows ++ (row ∷ [])) cs
+      → Step rows row cs t
   unfolding fitting
   step-fits rows row cs t f e z c =
       record {
@@ -92,7 +95,8 @@ module _ (q n k : ℕ) (settings : settingsRefusal q n k ≡ 0) where
       here = ap (λ b. pick b (row ∷ fitting q n (offered cs)) (fitting q n (offered cs))) f
 
   step-misfits : (rows : List (List ℕ)) (row : List ℕ) (cs : List Call) (t : Taken) → fits q n row ≡ false
-      → t .receiver ≡ holding q n k rows → (takeNumber (t .answer) ≡ 4) ⊎ (takeNumber (t .answer) ≡ 6) → Course q n k rows cs → Step rows row cs t
+      → t .receiver ≡ holding q n k rows → (takeNumber (t .answer) ≡ 4) ⊎ (takeNumber (t .answer) ≡ 6) → Course q n k rows cs
+      → Step rows row cs t
   unfolding fitting
   step-misfits rows row cs t f e z c =
       record {

@@ -17,6 +17,7 @@ little-endian (suc size) x h =
     let small : x / 256 < 256 ^ size = omega (arith, pow-succ' 256 size) in
     ap (λ y. x % 256 + 256 * y) (little-endian size (x / 256) small) ∙ omega (arith, div-add-mod' x 256)
 
-pub read-bytes : (number i d : ℕ) → i < 2 ^ 64 → read number (bytesOf 8 i ++ (d ∷ [])) ≡ record { number = number; index = i; dimension = d }
+pub read-bytes : (number i d : ℕ) → i < 2 ^ 64
+    → read number (bytesOf 8 i ++ (d ∷ [])) ≡ record { number = number; index = i; dimension = d }
 unfolding bytesOf
 read-bytes number i d h = ap (λ x. record { number = number; index = x; dimension = d }) (little-endian 8 i h)

@@ -48,7 +48,8 @@ module _ (q n k t : ℕ) (settings : settingsRefusal q n k ≡ 0) (m : List ℕ)
       let e : dimension q n rows ≡ d = has d .0 h in
       sym (space-few q n k t (dimension q n rows) (reducedOf q n rows) (omega arith)) ∙ ap (λ x. TooFew (record { dimension = x })) e
 
-  pub space-typed : HasDimension q n rows k → spaceAnswer q n k t (dimension q n rows) (reducedOf q n rows) ≡ Done (indexIn t (indexOf q n k t m))
+  pub space-typed : HasDimension q n rows k
+      → spaceAnswer q n k t (dimension q n rows) (reducedOf q n rows) ≡ Done (indexIn t (indexOf q n k t m))
   space-typed h =
       let e : dimension q n rows ≡ k = has k .0 h in
       sym (space-whole q n k t (dimension q n rows) (reducedOf q n rows) (omega arith) (omega arith))

@@ -60,7 +60,8 @@ among-fitting {q} {n} {row} h (later {y = other} {xs = rows} a) = cases (fits q 
     cases false a = a
 
 -- what is offered has the property or is no row: then the fitting rows have it
-fitting-all : {q n : ℕ} {P : List ℕ → Type 0} {rows : List (List ℕ)} → All (λ row. P row ⊎ (Row q n row → ⊥)) rows → All P (fitting q n rows)
+fitting-all : {q n : ℕ} {P : List ℕ → Type 0} {rows : List (List ℕ)} → All (λ row. P row ⊎ (Row q n row → ⊥)) rows
+    → All P (fitting q n rows)
 unfolding fitting
 fitting-all none = none
 fitting-all {q} {n} {P} (more {x = row} {xs = rows} h hs) = cases (fits q n row) refl h (fitting-all hs)

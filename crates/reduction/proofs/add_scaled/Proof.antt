@@ -8,7 +8,8 @@ use Rattle.field.specs.laws.Decide.{laws}
 use Rattle.field.specs.Field.{add, multiply}
 use Rattle.linear.specs.laws.Entries.{row-below}
 use Rattle.reduction.specs.laws.Steps.{part, plusMultiple}
-use Rattle.reduction.specs.laws.AddScaled.{entered, entered-none, entered-to, entered-apart, entered-more, entered-all, sum-length, sum-at}
+use Rattle.reduction.specs.laws.AddScaled.{entered, entered-none, entered-to, entered-apart, entered-more, entered-all, sum-length}
+use Rattle.reduction.specs.laws.AddScaled.{sum-at}
 use Rattle.reduction.proofs.add_scaled.Statement.{statement}
 use Rattle.reduction.proofs.add_scaled.Tie as tie
 

@@ -12,7 +12,8 @@ use Rattle.linear.specs.laws.FlatMatrix.{rows-length}
 use Rattle.linear.specs.laws.RowLead.{leadOf-le}
 use Rattle.reduction.specs.laws.Steps.{put, leads}
 use Rattle.reduction.specs.laws.Parts.{put-length}
-use Rattle.reduction.specs.laws.InsertResidue.{residue-is-row, monic-is-row, left-part, left-lead, insert-same, scaled-is, scaled-rows, scaled-part, scaled-lead, placed-result, one-more, insert-placed}
+use Rattle.reduction.specs.laws.InsertResidue.{residue-is-row, monic-is-row, left-part, left-lead, insert-same, scaled-is}
+use Rattle.reduction.specs.laws.InsertResidue.{scaled-rows, scaled-part, scaled-lead, placed-result, one-more, insert-placed}
 use borrow.Author.Needs.{needs}
 use Rattle.reduction.proofs.insert_residue.Statement.{statement}
 use Rattle.reduction.proofs.insert_residue.Tie as tie

@@ -15,7 +15,9 @@ use Rattle.linear.specs.Span.{rowsOf}
 use Rattle.reduction.specs.laws.Steps.{part, put, leads}
 use Rattle.reduction.specs.laws.Parts.{lead-read, pasted}
 use Rattle.reduction.specs.laws.Leads.{lead-inside}
-use Rattle.reduction.specs.laws.Residue.{Eliminating, eliminating-none, eliminating-start, first-row, started-rows, started-fits, started-put, eliminating-length, eliminating-part, eliminating-row, eliminating-more, eliminating-end}
+use Rattle.reduction.specs.laws.Residue.{Eliminating, eliminating-none, eliminating-start, first-row, started-rows, started-fits}
+use Rattle.reduction.specs.laws.Residue.{started-put, eliminating-length, eliminating-part, eliminating-row, eliminating-more}
+use Rattle.reduction.specs.laws.Residue.{eliminating-end}
 use Rattle.reduction.proofs.residue.Statement.{statement}
 use Rattle.reduction.proofs.residue.Tie as tie
 
