@@ -2,7 +2,7 @@
 -- is written with its rightmost column as leading digit, so each step is a division with remainder.
 --   rank-below      == a shape's index is below the count
 --   shape-free, shape-pivot == the shape with the index i begins with a free column, or with a pivot's
---   factor-positive, no-row-free, after-free == what is left of an index after its rightmost column
+--   no-row-free, after-free == what is left of an index after its rightmost column
 --   shape-valid     == an index below the count has a shape of a reduced matrix
 --   rank-of-shape, shape-of-rank == the two recursions undo one another
 -- Assumes nothing.
@@ -14,7 +14,6 @@ use native.Mathlib.Nat.{
   not-suc-le-zero,
   lt-of-lt-of-le,
   le-add-right,
-  mul-zero,
   pow-zero,
   mod-lt,
   div-lt-iff-lt-mul,
@@ -26,6 +25,7 @@ use native.Mathlib.Omega.{arith}
 use borrow.Author.Tests.{lt-ltb, le-ltb}
 use lib.Arith.{digits-lt, digits-div, digits-mod}
 use Rattle.basics.specs.laws.Order.{le-or-lt}
+use Rattle.matrix.specs.laws.Flatten.{factor-positive}
 use Rattle.matrix.specs.Shape.{Shape, empty, free, pivot}
 use Rattle.matrix.specs.laws.Shape.{Valid, valid-empty, valid-free, valid-pivot}
 use Rattle.counts.specs.Gaussian.{gaussian}
@@ -49,11 +49,6 @@ module _ (q n k i : ℕ) where
       → extendedShape q (suc n) k i ≡ pivot (extendedShape q n (pred k) (i - q ^ k * gaussian q n k))
   unfolding extendedShape
   shape-pivot h = rw (le-ltb i (q ^ k * gaussian q n k) h)
-
--- a factor of what is above a number is above 0
-pub factor-positive : (a b i : ℕ) → i < a * b → 0 < b
-factor-positive a zero i h = absurd (not-suc-le-zero (rw mul-zero at h))
-factor-positive a (suc b) i h = zero-lt-suc b
 
 -- with no rows left the last column is free
 pub no-row-free : (q n i : ℕ) → i < gaussian q (suc n) 0 → q ^ 0 * gaussian q n 0 ≤ i → ⊥

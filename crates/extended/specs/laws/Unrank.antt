@@ -22,7 +22,8 @@ use Rattle.counts.specs.laws.GaussianLaws.{gaussian-longer-le, gaussian-pivot-l
 use Rattle.settings.specs.laws.Accepted.{Accepted}
 use Rattle.counts.specs.laws.GaussianLaws.{entry-within}
 use Rattle.extended.specs.Drawn.{extendedShape, drawnExtended}
-use Rattle.extended.specs.laws.ShapeCount.{shape-free, shape-pivot, factor-positive, no-row-free, after-free}
+use Rattle.matrix.specs.laws.Flatten.{factor-positive}
+use Rattle.extended.specs.laws.ShapeCount.{shape-free, shape-pivot, no-row-free, after-free}
 
 pub record Unranking (q n k i : ℕ) (m : List ℕ) (c rows rest : ℕ) : Type 0 where
   pub columns : c ≤ n

@@ -3,6 +3,7 @@
 --   entry-flatten    == the entry of the bytes at row i and column j is the matrix's
 --   flatten-same     == two matrices that agree on k rows and n columns have the same bytes there
 --   flatten-entries  == k·n bytes are the bytes of their entries
+--   factor-positive  == a factor of what is above a number is above 0
 --   place-row, place-column, place-entry == a place below k·n is in a row below k and a column below n, and holds that entry
 -- Assumes nothing.
 use mathlib.Core.Path.{_≡_, refl, ap, ap₂, _∙_, sym}
@@ -47,16 +48,17 @@ flatten-same (suc k) n A B h =
     ap₂ (λ (a b : List ℕ). a ++ b) (tabulate-same (A 0) (B 0) 0 n (λ j l b. h 0 j (omega arith) (omega arith)))
     (flatten-same k n (λ i. A (suc i)) (λ i. B (suc i)) (λ i j l b. h (suc i) j (omega arith) b))
 
-columns-positive : (k n place : ℕ) → place < k * n → 0 < n
-columns-positive k zero place h = absurd (not-suc-le-zero (rw mul-zero at h))
-columns-positive k (suc n) place h = omega arith
+-- a factor of what is above a number is above 0
+pub factor-positive : (a b i : ℕ) → i < a * b → 0 < b
+factor-positive a zero i h = absurd (not-suc-le-zero (rw mul-zero at h))
+factor-positive a (suc b) i h = omega arith
 
 module _ (k n place : ℕ) (inside : place < k * n) where
   pub place-row : place / n < k
-  place-row = div-lt-iff-lt-mul (columns-positive k n place inside) .1 inside
+  place-row = div-lt-iff-lt-mul (factor-positive k n place inside) .1 inside
 
   pub place-column : place % n < n
-  place-column = mod-lt place (columns-positive k n place inside)
+  place-column = mod-lt place (factor-positive k n place inside)
 
   pub place-entry : (m : List ℕ) → entry n m (place / n) (place % n) ≡ getD m place 0
   place-entry m = ap (λ p. getD m p 0) (div-add-mod' place n)
