@@ -1,6 +1,6 @@
 -- The extended numbering. Document 01: "Columns are counted from the right, j = 1 to n. v_j is 1 when column j has a pivot. {X_j} is
 -- column j read as a base-q number, top row most significant."
---   ones n k m j             == the number of ones of v among columns 1 to j
+--   onesAmong n k m j        == the number of ones of v among columns 1 to j
 --   extendedTerm q n k m j   == what column j adds: "w is the number of ones of v among columns 1 to j-1. Column j adds
 --                               q^(k-w) × [n-j, k-w] if v_j = 1, and ({X_j} / q^w) × [n-j, k-w] if v_j = 0."
 --   extendedIndex q n k m    == formula (5), the sum over the columns
@@ -15,8 +15,8 @@ use Rattle.basics.specs.Sum.{sum, bit, Lex}
 use Rattle.matrix.specs.Matrix.{pivotAt, columnValue}
 use Rattle.counts.specs.Gaussian.{gaussian}
 
-unfoldable pub ones : ℕ → ℕ → List ℕ → ℕ → ℕ
-ones n k m j = sum j (λ i. bit (pivotAt n k m (suc i)))
+unfoldable pub onesAmong : ℕ → ℕ → List ℕ → ℕ → ℕ
+onesAmong n k m j = sum j (λ i. bit (pivotAt n k m (suc i)))
 
 -- w is given
 unfoldable pub extendedTermAt : ℕ → ℕ → ℕ → List ℕ → ℕ → ℕ → ℕ
@@ -24,7 +24,7 @@ extendedTermAt q n k m j w =
     pick (pivotAt n k m j) (q ^ (k - w) * gaussian q (n - j) (k - w)) (columnValue q n k m j / q ^ w * gaussian q (n - j) (k - w))
 
 unfoldable pub extendedTerm : ℕ → ℕ → ℕ → List ℕ → ℕ → ℕ
-extendedTerm q n k m j = extendedTermAt q n k m j (ones n k m (j - 1))
+extendedTerm q n k m j = extendedTermAt q n k m j (onesAmong n k m (j - 1))
 
 unfoldable pub extendedIndex : ℕ → ℕ → ℕ → List ℕ → ℕ
 extendedIndex q n k m = sum n (λ i. extendedTerm q n k m (suc i))

@@ -216,8 +216,7 @@ impl Receiver {
     }
 
     // Take: the receiver with the row taken in, and whether the dimension grew. Refuses 14, 4 (the row is not n bytes), 6, and then hands
-    // the
-    // receiver back unchanged.
+    // the receiver back unchanged.
     pub fn take(self, row: &[u8]) -> Taken
         ensures { λ r. ⌜ (r ≡ takeOf self (now (row .entry)))
             × (takeNumber (r .answer) ≡ takeRefusal self (now (row .entry)))

@@ -1,12 +1,10 @@
 -- Demand 3, as one statement for settings and a numbering that are accepted. The user: "Suppose settings are accepted and have N spaces.
 -- Then, in either numbering, drawing 0 to N-1 lists every reduced k-by-n matrix exactly once, strictly rising in that numbering's order,
--- the
--- order told by comparing matrices alone. Draw any one of them, and let rows be mixed from its rows over the field, in whatever way and
+-- the order told by comparing matrices alone. Draw any one of them, and let rows be mixed from its rows over the field, in whatever way and
 -- sequence. Then for every list of Take and Close calls on one receiver, refused ones included, from a fresh Start with these settings, in
 -- which every row accepted is such a mixture: closing after it, in the draw's numbering, gives back the drawn index, unrefused, exactly
--- when
--- the accepted rows span k dimensions; if fewer, it refuses with 8 and their true dimension. Receive, given none to 64 such rows in one
--- call, in that numbering, answers alike for them." `Flat` says it once more, without a record, under the user's words.
+-- when the accepted rows span k dimensions; if fewer, it refuses with 8 and their true dimension. Receive, given none to 64 such rows in
+-- one call, in that numbering, answers alike for them." `Flat` says it once more, without a record, under the user's words.
 --   Listing q n k t      == drawing 0 to N-1. Document 01: "A listing by Draw is told by separate draws: every index below N gives a reduced
 --                           k×n matrix, unrefused; each such matrix comes from exactly one of these indexes; and of any two of these indexes
 --                           the smaller gives the matrix that comes first in the numbering's order."

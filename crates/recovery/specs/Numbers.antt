@@ -1,6 +1,6 @@
 -- Demand 2, as the calls answer it, for settings and a numbering that are accepted. The user: "A reduced matrix gets the extended or
--- Ferrers
--- index that Silberstein and Etzion define, and an index below the count gets the matrix with that index. Received rows are numbered by the
+-- Ferrers index that Silberstein and Etzion define, and an index below the count gets the matrix with that index. Received rows are
+-- numbered by the
 -- one reduced matrix that spans the same space."
 --   Numbers q n k t    == Number of a reduced matrix is its index by the numbering's formula; Draw of that index leaves the matrix; Number of
 --                         what Draw leaves is the index; Convert of a reduced matrix's index is its index in the other numbering, never 15;

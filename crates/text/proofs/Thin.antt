@@ -1,7 +1,6 @@
 -- The walks that the writer's functions share. Each copies the place out of the lent writer, lends the buffer again to a function over a
 -- buffer, a place and a value, stores the place that it answers, and answers whether the piece fitted. A number, a digit, a word and rows
--- are
--- passed as a value; a comma, a slash and a line feed are literals of the code.
+-- are passed as a value; a comma, a slash and a line feed are literals of the code.
 -- They differ in the value's type X, of the MIR type τ, in the piece that a value stands for, in what is asked of it, and in the function f
 -- that is called.
 --     thin τ f, mark m f    the code of such a function, with a value and with a literal

@@ -6,7 +6,7 @@ use native.Mathlib.Omega.{arith}
 use borrow.Author.Needs.{needs}
 use Rattle.field.specs.laws.Small.{size-small}
 use Rattle.matrix.specs.Matrix.{pivotAt}
-use Rattle.extended.specs.Extended.{ones}
+use Rattle.extended.specs.Extended.{onesAmong}
 use Rattle.extended.specs.laws.VectorBits.{vector-ones, vector-pivot}
 use Rattle.extended.specs.laws.ColumnTerm.{Term, term-of, term-within, top-asked, term-entry}
 use Rattle.extended.proofs.column_term.Statement.{statement}
@@ -18,7 +18,7 @@ sub-ones-below c = search needs
 ones-below-requires : tie.Need-ones-below-requires
 ones-below-requires c κs = search needs
 
-w-is : (c : tie.After-ones-below) → let a = c .before .before .args in c .ones-below .result ≡ ones (a .n) (a .k) (a .m .now) (a .j - 1)
+w-is : (c : tie.After-ones-below) → let a = c .before .before .args in c .ones-below .result ≡ onesAmong (a .n) (a .k) (a .m .now) (a .j - 1)
 w-is c =
     let s = c .before .before in
     c .ones-below .ensures ∙ vector-ones _ _ _ _ _ (s .pre .2) (s .pre .3) (s .pre .4)

@@ -27,23 +27,23 @@ use Rattle.settings.specs.laws.Accepted.{Accepted}
 use Rattle.counts.specs.laws.GaussianLaws.{entry-within}
 use Rattle.field.specs.laws.Small.{size-small}
 use Rattle.counts.specs.laws.GaussianLaws.{gaussian-longer-le}
-use Rattle.extended.specs.Extended.{ones, extendedTerm, extendedIndex}
+use Rattle.extended.specs.Extended.{onesAmong, extendedTerm, extendedIndex}
 use Rattle.extended.specs.laws.Formula.{ones-before, term-free, term-pivot}
 use Rattle.extended.specs.laws.Part.{located-count}
 use Rattle.extended.specs.laws.Theorems.{index-below-count}
 
 pub record Term (q n k : ℕ) (m : List ℕ) (j c rows : ℕ) : Type 0 where
-  pub fewer : ones n k m (j - 1) ≤ k
+  pub fewer : onesAmong n k m (j - 1) ≤ k
   pub count : gaussian q (suc c) rows ≤ gaussian q n k
   pub by-pivot : pivotAt n k m j ≡ true → extendedTerm q n k m j ≡ q ^ rows * gaussian q c rows
   pub by-entries : pivotAt n k m j ≡ false → extendedTerm q n k m j ≡ topValue q (entry n m) rows c * gaussian q c rows
 
 module _ {q N K c : ℕ} {m : List ℕ} (h : 1 < q) where
   -- w is known by peeling
-  rows-found : {k : ℕ} {s : Shape} → Located q N K m k (suc c) s → (rows : ℕ) → rows ≡ K - ones N K m (N - c - 1) → k ≡ rows
+  rows-found : {k : ℕ} {s : Shape} → Located q N K m k (suc c) s → (rows : ℕ) → rows ≡ K - onesAmong N K m (N - c - 1) → k ≡ rows
   rows-found l rows e = omega (arith, ones-before l, l .rows)
 
-  term-at : LocatedColumn q N K m c → (rows : ℕ) → rows ≡ K - ones N K m (N - c - 1) → Term q N K m (N - c) c rows
+  term-at : LocatedColumn q N K m c → (rows : ℕ) → rows ≡ K - onesAmong N K m (N - c - 1) → Term q N K m (N - c) c rows
   term-at (at-free {k} {x} l) rows e =
       rw (← rows-found l rows e)
       (record {
@@ -62,7 +62,7 @@ module _ {q N K c : ℕ} {m : List ℕ} (h : 1 < q) where
       })
 
 module _ {q n k : ℕ} {m : List ℕ} (size : 1 < q) (r : Reduced q n k m) where
-  pub term-of : (j rows : ℕ) → 1 ≤ j → j ≤ n → rows ≡ k - ones n k m (j - 1) → Term q n k m j (n - j) rows
+  pub term-of : (j rows : ℕ) → 1 ≤ j → j ≤ n → rows ≡ k - onesAmong n k m (j - 1) → Term q n k m j (n - j) rows
   term-of j rows a b e =
       let s : n - (n - j) ≡ j = sub-sub-self b in
       rw s at (term-at size (located-column r (n - j) (omega arith)) rows (rw s e))

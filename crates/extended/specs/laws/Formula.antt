@@ -18,16 +18,16 @@ use Rattle.matrix.specs.laws.Shape.{topValue, Peeled, peeled-empty, peeled-free
 use Rattle.matrix.specs.laws.PeelPlace.{Located, located-start, located-free, located-pivot, free-no-pivot, pivot-here}
 use Rattle.matrix.specs.laws.Column.{free-column, LocatedColumn, at-free, at-pivot, located-column}
 use Rattle.counts.specs.Gaussian.{gaussian}
-use Rattle.extended.specs.Extended.{ones, extendedTermAt, extendedTerm, extendedIndex}
+use Rattle.extended.specs.Extended.{onesAmong, extendedTermAt, extendedTerm, extendedIndex}
 use Rattle.extended.specs.laws.ShapeRank.{extendedRank}
 
 module _ {q N K : ℕ} {m : List ℕ} where
-  pub ones-located : {k c : ℕ} {s : Shape} → Located q N K m k c s → ones N K m (N - c) ≡ K - k
-  unfolding ones
+  pub ones-located : {k c : ℕ} {s : Shape} → Located q N K m k c s → onesAmong N K m (N - c) ≡ K - k
+  unfolding onesAmong
   ones-located l = l .counted
 
   -- the ones among the columns to the right of column N - c
-  pub ones-before : {k c : ℕ} {s : Shape} → Located q N K m k (suc c) s → ones N K m (N - c - 1) ≡ K - k
+  pub ones-before : {k c : ℕ} {s : Shape} → Located q N K m k (suc c) s → onesAmong N K m (N - c - 1) ≡ K - k
   ones-before {c} l =
       let e : N - c - 1 ≡ N - suc c = omega (arith, l .columns) in
       rw e (ones-located l)
@@ -75,13 +75,13 @@ extended-formula {q} {n} {k} {m} {s} h r p =
     ∙ zero-add (extendedRank q s k n)
 
 exact-column : {q N K c : ℕ} {m : List ℕ} → 0 < q → LocatedColumn q N K m c → pivotAt N K m (N - c) ≡ false
-    → columnValue q N K m (N - c) ≡ columnValue q N K m (N - c) / q ^ ones N K m (N - c - 1) * q ^ ones N K m (N - c - 1)
+    → columnValue q N K m (N - c) ≡ columnValue q N K m (N - c) / q ^ onesAmong N K m (N - c - 1) * q ^ onesAmong N K m (N - c - 1)
 exact-column {q} {N} {K} h (at-free {k} {x} l) e =
     rw (ones-before l, free-column l, mul-div-cancel x (one-le-pow (K - k) q h))
 exact-column h (at-pivot l) e = let z : _≡_ {A = ℕ} 0 1 = cc (pivot-here l) in absurd (omega arith)
 
 pub division-exact : {q n k : ℕ} {m : List ℕ} → 1 < q → Reduced q n k m → (j : ℕ) → 1 ≤ j → j ≤ n → pivotAt n k m j ≡ false
-    → columnValue q n k m j ≡ columnValue q n k m j / q ^ ones n k m (j - 1) * q ^ ones n k m (j - 1)
+    → columnValue q n k m j ≡ columnValue q n k m j / q ^ onesAmong n k m (j - 1) * q ^ onesAmong n k m (j - 1)
 division-exact {q} {n} {k} {m} h r j a b e =
     let s : n - (n - j) ≡ j = sub-sub-self b in
     rw s at (exact-column (omega arith) (located-column r (n - j) (omega arith)) (rw s e))

@@ -10,7 +10,7 @@ use lib.Dec.{eqb}
 use lib.Count.{ones}
 use Rattle.basics.specs.Sum.{bit}
 use Rattle.matrix.specs.Matrix.{pivotAt, identifying}
-use Rattle.extended.specs.Extended.{ones as onesAmong}
+use Rattle.extended.specs.Extended.{onesAmong}
 use Rattle.matrix.specs.laws.BitSum.{bits-low, bits-at, bits-ones}
 
 module _ (n k : ℕ) (m : List ℕ) (v j : ℕ) (e : v ≡ identifying n k m) (a : 1 ≤ j) (b : j ≤ n) where

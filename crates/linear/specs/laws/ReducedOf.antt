@@ -1,6 +1,5 @@
 -- The reduced matrix of a list of rows is what its name says. Document 01: "The dimension of a list is the number of rows, none to n, of
--- the
--- one reduced matrix with the same span."
+-- the one reduced matrix with the same span."
 --   reducedRows-kept  == the reduced matrix as rows: they are rows, reduced when joined
 --   reducedRows-span  == they have the rows' span
 --   reducedOf-rows    == they are the rows of the matrix

@@ -1,6 +1,5 @@
 -- `listing::write::write_lines` meets its contract: the lines passed stand at the buffer's front, each at most 276 bytes long, so that the
--- next
--- has its 320 bytes of room.
+-- next has its 320 bytes of room.
 use mathlib.Core.Path.{_≡_, refl}
 use Prim.Native.Nat.{_+_, _-_, _≤_}
 use native.Mathlib.Omega.{arith}

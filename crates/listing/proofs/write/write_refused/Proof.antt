@@ -1,6 +1,5 @@
 -- `listing::write::write_refused` meets its contract: the pieces have room in the 320 bytes that are lent, so they stand one after the
--- other. A
--- number below 2^32 has at most 10 digits.
+-- other. A number below 2^32 has at most 10 digits.
 use mathlib.Core.Path.{ap, sym}
 use mathlib.Core.List.{[], _∷_, _++_}
 use Prim.Native.Nat.{_≤_}

@@ -1,7 +1,6 @@
 -- `text::writer::new` meets its contract: a walk of its MIR, by hand. The borrow of the slice goes into the result as it is, beside the
--- number 0.
--- The parameter is spent: the result names its lifetime, so nothing is had of it at exit, and `buffer .entry` is all that the contract can
--- say.
+-- number 0. The parameter is spent: the result names its lifetime, so nothing is had of it at exit, and `buffer .entry` is all that the
+-- contract can say.
 -- Assumes nothing.
 use mathlib.Core.Path.{refl}
 use Prim.Native.Nat.{ℕ}
