@@ -1,5 +1,6 @@
 # The walk of tools/believed. First file: the roots; then the sources; then the specifications.
 # A definition is a paragraph: the lines up to a blank one. Its name stands in its first line; a constructor's is that of its data type.
+# Of a definition that a theorem settles the walk goes on from the theorem's statement, and not from the definition's text.
 
 # The words of a line of antt or of a contract.
 function words(text,    i, n, w, out) {
@@ -53,6 +54,10 @@ FILENAME != last {
 
 FILENAME ~ /\.roots$/ {
     if ($0 !~ /^#/ && NF == 2) root[$1, $2] = 1
+    if ($0 !~ /^#/ && NF == 5 && $3 == "by") {
+        settled[$1, $2] = $4 SUBSEP $5
+        settles[$4, $5] = 1
+    }
     next
 }
 
@@ -87,7 +92,7 @@ name == "" && /^[a-z]/ {
     key = FILENAME SUBSEP name
     statement = 1
     data = $0 ~ /^pub data /
-    if (key in root) found[FILENAME, name] = 1
+    if (key in root || key in settles) found[FILENAME, name] = 1
 }
 
 name == "" && /^  pub [a-z]/ {
@@ -97,16 +102,17 @@ name == "" && /^  pub [a-z]/ {
     key = FILENAME SUBSEP name
     statement = 1
     data = 0
-    if (key in root) found[FILENAME, name] = 1
+    if (key in root || key in settles) found[FILENAME, name] = 1
 }
 
 name != "" {
     text = $0
     sub(/^ */, "", text)
     # of a theorem the statement alone is walked, not its proof
-    if (key in root && (index(text, name " ") == 1 || text ~ /^unfolding /) && text !~ /^[^ ]* :/) statement = 0
+    theorem = key in root || key in settles
+    if (theorem && (index(text, name " ") == 1 || text ~ /^unfolding /) && text !~ /^[^ ]* :/) statement = 0
     if (text ~ /^unfolding /) next
-    if (!(key in root) || statement) {
+    if (!theorem || statement) {
         body[FILENAME, name] = body[FILENAME, name] words($0)
         lines[FILENAME, name]++
     }
@@ -117,15 +123,25 @@ name != "" {
     if (/^pub record |^record /) record[FILENAME, name] = 1
 }
 
-# Reaches a definition once.
-function reach(file, what) {
+# Reaches a definition once, or the theorem that settles it.
+function reach(file, what,    p) {
     if ((file, what) in owner) what = owner[file, what]
+    if ((file, what) in settled) {
+        spared[file, what] = 1
+        split(settled[file, what], p, SUBSEP)
+        file = p[1]
+        what = p[2]
+    }
     if ((file, what) in reached || !((file, what) in body)) return
     reached[file, what] = 1
     queue[++tail] = file SUBSEP what
 }
 
 END {
+    for (r in settles) {
+        split(r, p, SUBSEP)
+        if (!(r in found)) print "no such theorem: " p[1] " " p[2]
+    }
     for (r in root) {
         if (!(r in found)) {
             split(r, p, SUBSEP)
@@ -165,4 +181,14 @@ END {
         printf "%s (%d):%s\n", list[i], count[list[i]], line
     }
     printf "%d lines in %d files\n", sum, files
+    names_spared = 0
+    for (r in spared) {
+        split(r, p, SUBSEP)
+        split(settled[r], w, SUBSEP)
+        told[++names_spared] = p[1] ": " p[2] ", settled by " w[1] " " w[2]
+    }
+    for (i = 1; i <= names_spared; i++)
+        for (j = i + 1; j <= names_spared; j++)
+            if (told[j] < told[i]) { t = told[i]; told[i] = told[j]; told[j] = t }
+    for (i = 1; i <= names_spared; i++) print told[i]
 }

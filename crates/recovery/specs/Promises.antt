@@ -4,22 +4,30 @@
 --   close-more     == closing more than k dimensions refuses with 9 and the true dimension
 --   receive-more   == so does Receive
 --   receive-agrees == by value Receive answers as its C form does with nine bytes
+-- And which values two definitions have that contracts cite, so that a reader need not believe the text of these:
+--   reduced-matrix-exactly == the reduced matrix of rows over the field, and its number of rows, are the one reduced matrix with their span
+--   drawn-exactly          == the matrix that is drawn for an index below the count is the one reduced matrix with that index
 -- Assumes nothing.
 use mathlib.Core.Path.{_≡_, refl, ap, sym, _∙_}
 use mathlib.Core.Bool.{true}
 use mathlib.Core.List.{List, _++_}
+use mathlib.Core.Logic.{_↔_}
 use Prim.Native.Nat.{ℕ, _*_, _-_, _≤_, _<_}
 use native.Mathlib.Omega.{arith}
+use lib.Dec.{T}
 use lib.ListN.{length, replicate}
 use Rattle.refusal.specs.laws.First.{done}
+use Rattle.field.specs.Field.{isFieldSize}
 use Rattle.field.specs.laws.Decide.{laws}
+use Rattle.counts.specs.Gaussian.{gaussian}
 use Rattle.settings.specs.Settings.{settingsRefusal}
 use Rattle.matrix.specs.Matrix.{Reduced}
 use Rattle.linear.specs.Span.{All, Row, SameSpan, rowsOf, HasDimension}
 use Rattle.linear.specs.Eliminate.{join, reducedOf, dimension}
-use Rattle.linear.specs.laws.ReducedOf.{reducedOf-reduced, reducedOf-span, dimension-has}
+use Rattle.linear.specs.laws.ReducedOf.{reducedOf-reduced, reducedOf-span, reducedOf-unique, dimension-has}
 use Rattle.reduction.specs.Padded.{padded}
-use Rattle.numbering.specs.Numbering.{isNumbering}
+use Rattle.numbering.specs.Numbering.{isNumbering, indexOf, drawn}
+use Rattle.numbering.specs.laws.Either.{either}
 use Rattle.reduce.specs.Reduce.{mostRows, reduceRefusal, reduceOf, reduceBuffer, reductionDimension}
 use Rattle.reduce.specs.laws.ReduceAccepted.{reduce-accepted, reduce-told}
 use Rattle.receive.specs.Answer.{spaceAnswer}
@@ -75,6 +83,20 @@ module _ (q n k t : ℕ) (settings : settingsRefusal q n k ≡ 0) (known : isNum
   pub receive-more : (rows : List (List ℕ)) → All (Row q n) rows → length rows ≤ mostRows → (d : ℕ) → HasDimension q n rows d → k < d
       → told k (receiveOf q n k t (length rows) (join rows)) ≡ record { number = 9; index = 0; dimension = d }
   receive-more rows h few d has g = ap (told k) (receive-rows q n k t settings known rows h few) ∙ more rows h d has g
+
+pub reduced-matrix-exactly : (q : ℕ) → T (isFieldSize q) → (n : ℕ) (rows : List (List ℕ)) → All (Row q n) rows
+    → (d : ℕ) (m : List ℕ)
+    → (Reduced q n d m × SameSpan q n (rowsOf n d m) rows) ↔ ((d ≡ dimension q n rows) × (m ≡ reducedOf q n rows))
+reduced-matrix-exactly q size n rows h d m = (
+  λ x. reducedOf-unique q (laws q size) n rows h d m (x .0) (x .1),
+  λ e. rw (e .0, e .1) (reducedOf-reduced q (laws q size) n rows h, reducedOf-span q (laws q size) n rows h),
+)
+
+pub drawn-exactly : (q n k t : ℕ) → settingsRefusal q n k ≡ 0 → (i : ℕ) → i < gaussian q n k
+    → (m : List ℕ) → (Reduced q n k m × (indexOf q n k t m ≡ i)) ↔ (m ≡ drawn q n k t i)
+drawn-exactly q n k t settings i h m =
+    let o = either q n k t settings in
+    (λ x. sym (o .drawn-of-index m (x .0)) ∙ ap (drawn q n k t) (x .1), λ e. rw e (o .drawn-reduced i h, o .index-of-drawn i h))
 
 pub receive-agrees : (q n k t r : ℕ) (input : List ℕ) → exportedOf q n k t r input answerSize ≡ receiveOf q n k t r input
 receive-agrees = exported-receive
