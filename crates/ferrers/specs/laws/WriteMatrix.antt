@@ -47,7 +47,8 @@ use Rattle.matrix.specs.laws.WriteColumn.{digitAt, unitAt, Blank, Written}
 use Rattle.ferrers.specs.laws.DiagramShape.{diagram-valid}
 use Rattle.ferrers.specs.laws.VectorAt.{diagramVector, diagram-vector}
 use Rattle.ferrers.specs.laws.Inner.{rest, inner, pivots, valid-pivots, valid-none, Inner, inner-at}
-use Rattle.ferrers.specs.Drawn.{boxCount, diagramShape}
+use Rattle.partitions.specs.Partitions.{boxCount}
+use Rattle.ferrers.specs.Drawn.{diagramShape}
 use Rattle.ferrers.specs.laws.ShapeRank.{shapeSize, shapeTableau}
 use Rattle.ferrers.specs.laws.ShapeBounds.{tableau-below}
 
