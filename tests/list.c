@@ -205,7 +205,10 @@ static void settings_group(uint64_t q)
     check_group_end();
 }
 
-/* The counts nearest to 65,536; none equals it. The listing has a line more, the header. */
+/*
+ * How many lines are written at the counts nearest to 65,536; none equals it. The listing has a line more, the header.
+ * What stands in the lines is compared with every setting.
+ */
 static void limit_group(void)
 {
     static const setting nearest[] = {
@@ -219,7 +222,6 @@ static void limit_group(void)
         size_t length = write_setting(s->q, s->n, s->k, text);
         uint64_t lines = 0;
         run((const uint8_t *)text, length);
-        compare_output((const uint8_t *)text, length);
         for (size_t byte = 0; byte < output.length; byte++)
             lines += output.text[byte] == '\n';
         check(lines == (s->count <= 65536 ? s->count + 1 : 1), SETTING_FORMAT ": %" PRIu64 " lines", SETTING_VALUES(s),
@@ -228,16 +230,19 @@ static void limit_group(void)
     check_group_end();
 }
 
-/* One of the three numbers runs from 0 to 999, or is near a limit together with the others. */
+/* A number as one of the three, up to 99 as each of them and from 100 to 999 as one in turn; all three near a limit. */
 static void numbers_group(void)
 {
     static const uint64_t near[] = {0, 1, 2, 4, 6, 8, 9, 256, 258, 999};
     enum { NEAR = COUNT_OF(near) };
     check_group_begin("numbers of 1 to 3 digits");
     for (uint64_t number = 0; number < 1000; number++) {
-        compare_setting(number, 3, 1);
-        compare_setting(2, number, 1);
-        compare_setting(3, 4, number);
+        if (number < 100 || number % 3 == 0)
+            compare_setting(number, 3, 1);
+        if (number < 100 || number % 3 == 1)
+            compare_setting(2, number, 1);
+        if (number < 100 || number % 3 == 2)
+            compare_setting(3, 4, number);
     }
     for (unsigned code = 0; code < NEAR * NEAR * NEAR; code++)
         compare_setting(near[code % NEAR], near[code / NEAR % NEAR], near[code / NEAR / NEAR]);

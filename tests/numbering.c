@@ -61,10 +61,11 @@ static void compare_listing(const setting *s, uint64_t numbering)
 
 static void compare_conversions(const setting *s)
 {
-    uint8_t *extended = sorted_listing(s, EXTENDED), *ferrers = sorted_listing(s, FERRERS);
+    uint8_t *extended = sorted_listing(s, EXTENDED);
+    size_t *ferrers = malloc((size_t)s->count * sizeof *ferrers);
+    second_indexes(s->q, s->n, s->k, FERRERS, extended, (size_t)s->count, ferrers);
     for (uint64_t index = 0; index < s->count; index++) {
-        uint64_t other = second_place(s->q, s->n, s->k, FERRERS, ferrers, (size_t)s->count,
-                                      extended + index * width_of(s));
+        uint64_t other = ferrers[index];
         bool right = converts(s, EXTENDED, FERRERS, index, other) && converts(s, FERRERS, EXTENDED, other, index) &&
                      converts(s, EXTENDED, EXTENDED, index, index) && converts(s, FERRERS, FERRERS, index, index);
         check(right, SETTING_FORMAT ": conversion of %" PRIu64 " and %" PRIu64, SETTING_VALUES(s), index, other);

@@ -94,8 +94,6 @@ unsigned second_diagram(uint64_t n, uint64_t k, uint32_t vector, uint8_t *height
 unsigned second_tableau(uint64_t n, uint64_t k, const uint8_t *matrix, uint8_t *heights, uint8_t *entries);
 
 /* Below 0, 0 or above 0 as the first reduced matrix comes before, is, or comes after the second in the order. */
-int second_extended_compare(uint64_t q, uint64_t n, uint64_t k, const uint8_t *first, const uint8_t *second);
-int second_ferrers_compare(uint64_t q, uint64_t n, uint64_t k, const uint8_t *first, const uint8_t *second);
 int second_compare(uint64_t q, uint64_t n, uint64_t k, uint64_t numbering,
                    const uint8_t *first, const uint8_t *second);
 
@@ -108,9 +106,9 @@ size_t second_enumerate(uint64_t q, uint64_t n, uint64_t k, uint8_t *out);
 /* Sorts matrices that stand one after another by the numbering's order; the place is then the index. */
 void second_sort(uint64_t q, uint64_t n, uint64_t k, uint64_t numbering, uint8_t *matrices, size_t count);
 
-/* The place of a matrix among sorted ones, by halving; one of them is it. */
-size_t second_place(uint64_t q, uint64_t n, uint64_t k, uint64_t numbering,
-                    const uint8_t *matrices, size_t count, const uint8_t *matrix);
+/* The index of each of the matrices, all of a setting's in any order: its place among them when they are sorted. */
+void second_indexes(uint64_t q, uint64_t n, uint64_t k, uint64_t numbering,
+                    const uint8_t *matrices, size_t count, size_t *indexes);
 
 /* List: writes what the list program is to write for an input. Refuses 11, 1, 2, 3, 12. */
 uint32_t second_list(const uint8_t *input, size_t length, FILE *out);

@@ -52,32 +52,31 @@ static uint32_t read_settings(const uint8_t *input, size_t length, uint64_t numb
 
 /* ---- The output ---- */
 
-static void write_line(FILE *out, uint64_t n, uint64_t k, uint64_t extended, uint64_t ferrers, const uint8_t *matrix)
+static void write_line(FILE *out, uint64_t n, uint64_t k, size_t extended, size_t ferrers, const uint8_t *matrix)
 {
-    fprintf(out, "%" PRIu64 ",%" PRIu64 ",", extended, ferrers);
+    char rows[MAX_LENGTH * (MAX_LENGTH + 1) + 1], *end = rows;
     for (uint64_t place = 0; place < k * n; place++) {
         if (place > 0 && place % n == 0)
-            fputc('/', out);
-        fputc('0' + matrix[place], out);
+            *end++ = '/';
+        *end++ = (char)('0' + matrix[place]);
     }
-    fputc('\n', out);
+    *end = '\0';
+    fprintf(out, "%zu,%zu,%s\n", extended, ferrers, rows);
 }
 
 static void list_all(FILE *out, uint64_t q, uint64_t n, uint64_t k, uint64_t count)
 {
     size_t length = (size_t)(k * n), listed = 0;
-    uint8_t *extended = malloc(count * length + 1), *ferrers = malloc(count * length + 1);
-    if (extended != NULL && ferrers != NULL) {
-        second_enumerate(q, n, k, ferrers);
-        listed = second_enumerate(q, n, k, extended);
-        second_sort(q, n, k, EXTENDED, extended, listed);
-        second_sort(q, n, k, FERRERS, ferrers, listed);
+    uint8_t *matrices = malloc(count * length + 1);
+    size_t *ferrers = malloc(count * sizeof *ferrers);
+    if (matrices != NULL && ferrers != NULL) {
+        listed = second_enumerate(q, n, k, matrices);
+        second_sort(q, n, k, EXTENDED, matrices, listed);
+        second_indexes(q, n, k, FERRERS, matrices, listed, ferrers);
     }
-    for (size_t index = 0; index < listed; index++) {
-        const uint8_t *matrix = extended + index * length;
-        write_line(out, n, k, index, second_place(q, n, k, FERRERS, ferrers, listed, matrix), matrix);
-    }
-    free(extended);
+    for (size_t index = 0; index < listed; index++)
+        write_line(out, n, k, index, ferrers[index], matrices + index * length);
+    free(matrices);
     free(ferrers);
 }
 

@@ -72,16 +72,26 @@ static int compare_columns(unsigned n, unsigned k, unsigned j, const uint8_t *fi
     return 0;
 }
 
-int second_extended_compare(uint64_t q, uint64_t n, uint64_t k, const uint8_t *first, const uint8_t *second)
+/* A matrix beside its identifying vector, and the place where it stood before it was sorted. */
+typedef struct {
+    const uint8_t *matrix;
+    uint32_t vector;
+    size_t place;
+} item;
+
+static item make_item(unsigned n, unsigned k, const uint8_t *matrix, size_t place)
 {
-    uint32_t first_vector = second_identifying_vector(n, k, first);
-    uint32_t second_vector = second_identifying_vector(n, k, second);
+    item made = {matrix, second_identifying_vector(n, k, matrix), place};
+    return made;
+}
+
+static int compare_extended(unsigned n, unsigned k, const item *first, const item *second)
+{
     int order = 0;
-    (void)q;
     for (unsigned j = 1; j <= n && order == 0; j++) {
-        order = (int)(first_vector >> (j - 1) & 1) - (int)(second_vector >> (j - 1) & 1);
+        order = (int)(first->vector >> (j - 1) & 1) - (int)(second->vector >> (j - 1) & 1);
         if (order == 0)
-            order = compare_columns((unsigned)n, (unsigned)k, j, first, second);
+            order = compare_columns(n, k, j, first->matrix, second->matrix);
     }
     return order;
 }
@@ -99,24 +109,28 @@ int second_diagram_compare(uint64_t n, uint64_t k, uint32_t first, uint32_t seco
     return 0;
 }
 
-int second_ferrers_compare(uint64_t q, uint64_t n, uint64_t k, const uint8_t *first, const uint8_t *second)
+/* At equal diagrams both have the same entries off the dots, so that whole columns compare as the tableaux do. */
+static int compare_ferrers(unsigned n, unsigned k, const item *first, const item *second)
 {
-    uint8_t heights[MAX_LENGTH], first_entries[MATRIX_LIMIT], second_entries[MATRIX_LIMIT];
-    int order = second_diagram_compare(n, k, second_identifying_vector(n, k, first),
-                                       second_identifying_vector(n, k, second));
-    (void)q;
-    if (order != 0)
-        return order;
-    second_tableau(n, k, first, heights, first_entries);
-    return memcmp(first_entries, second_entries, second_tableau(n, k, second, heights, second_entries));
+    int order = 0;
+    if (first->vector != second->vector)
+        return second_diagram_compare(n, k, first->vector, second->vector);
+    for (unsigned j = 1; j <= n && order == 0; j++)
+        order = compare_columns(n, k, j, first->matrix, second->matrix);
+    return order;
+}
+
+static int compare_items(unsigned n, unsigned k, uint64_t numbering, const item *first, const item *second)
+{
+    return numbering == EXTENDED ? compare_extended(n, k, first, second) : compare_ferrers(n, k, first, second);
 }
 
 int second_compare(uint64_t q, uint64_t n, uint64_t k, uint64_t numbering,
                    const uint8_t *first, const uint8_t *second)
 {
-    if (numbering == EXTENDED)
-        return second_extended_compare(q, n, k, first, second);
-    return second_ferrers_compare(q, n, k, first, second);
+    (void)q;
+    item one = make_item((unsigned)n, (unsigned)k, first, 0), two = make_item((unsigned)n, (unsigned)k, second, 0);
+    return compare_items((unsigned)n, (unsigned)k, numbering, &one, &two);
 }
 
 /* ---- The listing ---- */
@@ -192,34 +206,51 @@ size_t second_enumerate(uint64_t q, uint64_t n, uint64_t k, uint8_t *out)
 
 /* The setting of the sort under way; qsort hands its comparison no more than the two matrices. */
 static struct {
-    uint64_t q, n, k, numbering;
+    unsigned n, k;
+    uint64_t numbering;
 } sorting;
 
 static int compare_for_sort(const void *first, const void *second)
 {
-    return second_compare(sorting.q, sorting.n, sorting.k, sorting.numbering, first, second);
+    return compare_items(sorting.n, sorting.k, sorting.numbering, first, second);
+}
+
+/* The matrices in the numbering's order; the caller frees them. */
+static item *sorted_items(uint64_t n, uint64_t k, uint64_t numbering, const uint8_t *matrices, size_t count)
+{
+    item *items = malloc(count * sizeof *items);
+    if (items == NULL)
+        abort();
+    for (size_t place = 0; place < count; place++)
+        items[place] = make_item((unsigned)n, (unsigned)k, matrices + place * (size_t)(k * n), place);
+    sorting.n = (unsigned)n;
+    sorting.k = (unsigned)k;
+    sorting.numbering = numbering;
+    qsort(items, count, sizeof *items, compare_for_sort);
+    return items;
 }
 
 void second_sort(uint64_t q, uint64_t n, uint64_t k, uint64_t numbering, uint8_t *matrices, size_t count)
 {
-    sorting.q = q;
-    sorting.n = n;
-    sorting.k = k;
-    sorting.numbering = numbering;
-    if (k > 0)
-        qsort(matrices, count, (size_t)(k * n), compare_for_sort);
+    size_t length = (size_t)(k * n);
+    uint8_t *unsorted = malloc(count * length + 1);
+    if (unsorted == NULL)
+        abort();
+    (void)q;
+    memcpy(unsorted, matrices, count * length);
+    item *items = sorted_items(n, k, numbering, unsorted, count);
+    for (size_t index = 0; index < count; index++)
+        memcpy(matrices + index * length, items[index].matrix, length);
+    free(items);
+    free(unsorted);
 }
 
-size_t second_place(uint64_t q, uint64_t n, uint64_t k, uint64_t numbering,
-                    const uint8_t *matrices, size_t count, const uint8_t *matrix)
+void second_indexes(uint64_t q, uint64_t n, uint64_t k, uint64_t numbering,
+                    const uint8_t *matrices, size_t count, size_t *indexes)
 {
-    size_t first = 0, last = count - 1;
-    while (first < last) {
-        size_t middle = first + (last - first) / 2;
-        if (second_compare(q, n, k, numbering, matrices + middle * (size_t)(k * n), matrix) < 0)
-            first = middle + 1;
-        else
-            last = middle;
-    }
-    return first;
+    item *items = sorted_items(n, k, numbering, matrices, count);
+    (void)q;
+    for (size_t index = 0; index < count; index++)
+        indexes[items[index].place] = index;
+    free(items);
 }

@@ -204,16 +204,16 @@ static void write_counts_look_up(void)
 // wide, by n and then by the shorter side.
 static void write_diagrams_look_up(void)
 {
-    FILE *file = begin("crates/ferrers/src/lookup.rt");
-    fputs("// The tables of the Ferrers numbering, as functions: the compiler makes a read-only table of each `match`, which needs no\n"
+    FILE *file = begin("crates/partitions/src/lookup.rt");
+    fputs("// The tables of the partition counts, as functions: the compiler makes a read-only table of each `match`, which needs no\n"
           "// stack. Made by tools/tables.\n"
           "ghost use mathlib.Core.Path.{_≡_};\n"
           "ghost use lib.ListN.{getD};\n"
-          "ghost use Rattle.ferrers.specs.laws.PackedCounts.{words, begins};\n", file);
-    struct proof proof = begin_proof("ferrers", "word", "words",
+          "ghost use Rattle.partitions.specs.laws.PackedCounts.{words, begins};\n", file);
+    struct proof proof = begin_proof("partitions", "word", "words",
         "use Rattle.basics.specs.laws.Ragged.{ragged}\n"
-        "use Rattle.ferrers.specs.laws.BoxTable.{level, nextRows, addRows, shifted}\n"
-        "use Rattle.ferrers.specs.laws.PackedCounts.{keptCounts, packFour, words}\n",
+        "use Rattle.partitions.specs.laws.BoxTable.{level, nextRows, addRows, shifted}\n"
+        "use Rattle.partitions.specs.laws.PackedCounts.{keptCounts, packFour, words}\n",
         "words packFour keptCounts ragged level nextRows addRows shifted");
     begin_function(file, "word", "words",
         "Four partition counts of sixteen bits each, the first lowest.");
@@ -234,11 +234,11 @@ static void write_diagrams_look_up(void)
         write_word(file, &proof, kept / 4, word);
     end_function(file);
     end_proof(&proof);
-    proof = begin_proof("ferrers", "begin", "begins",
+    proof = begin_proof("partitions", "begin", "begins",
         "use Rattle.basics.specs.laws.Ragged.{ragged}\n"
         "use Rattle.basics.specs.Sum.{sum}\n"
         "use Rattle.basics.specs.Table.{tabulate}\n"
-        "use Rattle.ferrers.specs.laws.PackedCounts.{begins}\n",
+        "use Rattle.partitions.specs.laws.PackedCounts.{begins}\n",
         "begins ragged tabulate sum");
     begin_function(file, "begin", "begins",
         "Where the counts of a box begin; the boxes in the order of their row length and shorter side.");

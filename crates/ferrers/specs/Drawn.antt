@@ -1,27 +1,15 @@
 -- The Ferrers numbering on peeled shapes, as recursions that compute; their theorems tie them to formulas (12) and (14).
---   boxCount n k m         == p(k, n-k, m), the number of diagrams of size m, as a recursion on n like the Gaussian coefficient's
 --   diagramShape q n k m d x == the shape of the diagram of size m at place d with the tableau x
 --   sizedShape q n k m i   == the shape of the index i among the matrices of at most m dots
 --   ferrersShape q n k i   == the shape with the index i
 --   drawnFerrers q n k i   == the bytes of the reduced matrix with the Ferrers index i
 -- Assumes nothing.
 use mathlib.Core.List.{List}
-use Prim.Native.Nat.{ℕ, zero, suc, pred, _+_, _*_, _-_, _^_, _/_, _%_}
-use lib.Dec.{ltb, eqb}
+use Prim.Native.Nat.{ℕ, zero, suc, pred, _*_, _-_, _^_, _/_, _%_}
+use lib.Dec.{ltb}
 use Rattle.basics.specs.Choice.{pick}
-use Rattle.basics.specs.Sum.{bit}
 use Rattle.matrix.specs.Shape.{Shape, empty, free, pivot, cell, flatten}
-use Rattle.ferrers.specs.Partitions.{partitionsLess}
-
--- a free column first, or a pivot column first
-unfoldable pub boxCount : ℕ → ℕ → ℕ → ℕ
-boxCount n zero m = bit (eqb m 0)
-boxCount zero (suc k) m = 0
-boxCount (suc n) (suc k) m = partitionsLess (boxCount n (suc k)) m (suc k) + boxCount n k m
-
--- the diagrams of size m that begin with a free column of k dots, n columns being left after it
-abbrev pub freeCount : ℕ → ℕ → ℕ → ℕ
-freeCount n k m = partitionsLess (boxCount n k) m k
+use Rattle.partitions.specs.Partitions.{boxCount, freeCount}
 
 unfoldable pub diagramShape : ℕ → ℕ → ℕ → ℕ → ℕ → ℕ → Shape
 diagramShape q zero k m d x = empty

@@ -20,7 +20,7 @@ use lib.ListN.{getD}
 use Rattle.basics.specs.Choice.{pick}
 use Rattle.basics.specs.Sum.{sum, sumRange, value, bit, Lex}
 use Rattle.matrix.specs.Matrix.{entry, pivot, pivotAt}
-use Rattle.ferrers.specs.Partitions.{partitions, partitionsLess}
+use Rattle.partitions.specs.Partitions.{partitions, partitionsLess}
 
 -- the columns without a pivot among j, j+1, .. , as many as `left` says
 unfoldable pub freeFrom : ℕ → ℕ → List ℕ → ℕ → ℕ → List ℕ

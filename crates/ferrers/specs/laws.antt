@@ -1,9 +1,5 @@
 -- Lemmas; no part of the meaning.
 pub mod ShapeRank
-pub mod Less
-pub mod Box
-pub mod PartitionsLaws
-pub mod GaussianPartitions
 pub mod ShapeBounds
 pub mod DiagramShape
 pub mod SizedShape
@@ -16,8 +12,6 @@ pub mod Formula
 pub mod RankOrder
 pub mod BeforeLaws
 pub mod Theorems
-pub mod BoxTable
-pub mod PackedCounts
 pub mod Weight
 pub mod SizeOf
 pub mod IndexParts

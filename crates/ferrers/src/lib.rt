@@ -1,6 +1,4 @@
 // The Ferrers numbering.
-mod lookup;
-
 ghost use mathlib.Core.Path.{_≡_};
 ghost use Prim.Native.Nat.{ℕ, _*_, _-_, _^_, _≤_, _<_};
 ghost use lib.ListN.{length};
@@ -8,9 +6,10 @@ ghost use Rattle.counts.specs.Gaussian.{gaussian};
 ghost use Rattle.settings.specs.laws.Accepted.{Accepted};
 ghost use Rattle.matrix.specs.Matrix.{identifying, Reduced};
 ghost use Rattle.matrix.specs.Shape.{Shape, cell, flatten};
+ghost use Rattle.partitions.specs.Partitions.{boxCount};
+ghost use Rattle.partitions.specs.laws.PackedCounts.{boxBegin};
 ghost use Rattle.ferrers.specs.Ferrers.{size, diagram, diagramPlace, tableauValue, largerDiagrams, ferrersIndex};
-ghost use Rattle.ferrers.specs.Drawn.{boxCount, freeCount, drawnFerrers};
-ghost use Rattle.ferrers.specs.laws.PackedCounts.{packed as packedCount, boxBegin};
+ghost use Rattle.ferrers.specs.Drawn.{drawnFerrers};
 ghost use Rattle.ferrers.specs.laws.FindSize.{Found};
 ghost use Rattle.ferrers.specs.laws.VectorAt.{diagramVector};
 ghost use Rattle.ferrers.specs.laws.WriteMatrix.{Shaped};
@@ -18,62 +17,12 @@ ghost use Rattle.ferrers.specs.laws.WriteMatrix.{Shaped};
 // An index of the Ferrers numbering; it never stands for an extended index.
 pub struct FerrersIndex(pub u64);
 
-// The i-th of the packed partition counts.
-fn packed(i: u64) -> u64
-    ensures { λ r. ⌜ r ≡ packedCount i ⌝ }
-{
-    (lookup::word(i / 4) >> (i % 4 * 16)) % 65536
-}
-
-// Where the counts of the box of k rows and n - k columns begin.
-fn box_begin(n: usize, k: usize) -> u64
-    requires { ⌜ (n ≤ 16) × (k ≤ n) ⌝ }
-    ensures { λ r. ⌜ r ≡ boxBegin n k ⌝ }
-{
-    lookup::begin(counts::half_place(n as u64, k as u64))
-}
-
-// p(k, n-k, m), the number of Ferrers diagrams of m dots in a box of k rows and n - k columns, which has room for `limit` dots; its counts
-// begin at `begin`.
-fn box_entry(n: usize, k: usize, begin: u64, limit: usize, m: usize) -> u64
-    requires { ⌜ (n ≤ 16) × (k ≤ n) × (begin ≡ boxBegin n k) × (limit ≡ k * (n - k)) × (m ≤ limit) ⌝ }
-    ensures { λ r. ⌜ r ≡ boxCount n k m ⌝ }
-{
-    packed(begin + counts::nearer(limit as u64, m as u64))
-}
-
-// The same for any k and m; 0 where there is no such box or no room.
-fn box_count(n: usize, k: usize, m: usize) -> u64
-    requires { ⌜ n ≤ 16 ⌝ }
-    ensures { λ r. ⌜ r ≡ boxCount n k m ⌝ }
-{
-    if n < k {
-        return 0;
-    }
-    let limit = k * (n - k);
-    if limit < m {
-        return 0;
-    }
-    box_entry(n, k, box_begin(n, k), limit, m)
-}
-
-// The diagrams of m dots that begin with a free column of k dots, n columns being left after it.
-fn free_boxes(n: usize, k: usize, m: usize) -> u64
-    requires { ⌜ n ≤ 16 ⌝ }
-    ensures { λ r. ⌜ r ≡ freeCount n k m ⌝ }
-{
-    if m < k {
-        return 0;
-    }
-    box_count(n, k, m - k)
-}
-
 // The number of spaces whose diagrams have m dots; the box has room for `limit` dots, and its counts begin at `begin`.
 fn weight(q: u64, n: usize, k: usize, begin: u64, limit: usize, m: usize) -> u64
     requires { ⌜ Accepted q n k × (begin ≡ boxBegin n k) × (limit ≡ k * (n - k)) × (m ≤ limit) ⌝ }
     ensures { λ r. ⌜ r ≡ boxCount n k m * q ^ m ⌝ }
 {
-    box_entry(n, k, begin, limit, m) * counts::power(q, m)
+    partitions::box_entry(n, k, begin, limit, m) * counts::power(q, m)
 }
 
 // The number of spaces whose diagrams have more than m dots.
@@ -81,7 +30,7 @@ fn larger(q: u64, n: usize, k: usize, m: usize) -> u64
     requires { ⌜ Accepted q n k × (m ≤ k * (n - k)) ⌝ }
     ensures { λ r. ⌜ r ≡ largerDiagrams q k (n - k) m ⌝ }
 {
-    let begin = box_begin(n, k);
+    let begin = partitions::box_begin(n, k);
     let limit = k * (n - k);
     let mut sum: u64 = 0;
     let mut i = limit;
@@ -122,7 +71,7 @@ fn place_of(m: &[u8], q: u64, n: usize, k: usize, v: u16, total: usize) -> u64
     let mut c = n;
     while c > 0 {
         if matrix::pivot_at(v, n - c) {
-            place += free_boxes(c - 1, rows, left);
+            place += partitions::free_boxes(c - 1, rows, left);
             rows -= 1;
         } else {
             left -= rows;
@@ -174,7 +123,7 @@ fn find_size(q: u64, n: usize, k: usize, index: u64) -> SizedIndex
     requires { ⌜ Accepted q n k × (index < gaussian q n k) ⌝ }
     ensures { λ r. ⌜ Found q n k index (r .size) (r .rest) ⌝ }
 {
-    let begin = box_begin(n, k);
+    let begin = partitions::box_begin(n, k);
     let limit = k * (n - k);
     let mut m = limit;
     let mut rest = index;
@@ -202,7 +151,7 @@ fn vector_at(n: usize, k: usize, size: usize, place: u64) -> u16
     let mut columns = n;
     while columns > 0 {
         let c = columns - 1;
-        let free = free_boxes(c, rows, dots);
+        let free = partitions::free_boxes(c, rows, dots);
         if earlier < free {
             dots -= rows;
         } else {

@@ -7,8 +7,9 @@ ghost use lib.Dec.{eqb};
 ghost use lib.ListN.{length, getD, replicate};
 ghost use Rattle.basics.specs.Choice.{pick};
 ghost use Rattle.matrix.specs.Matrix.{entry, lead as leadOf, pivot, entriesBelow, isReduced, Reduced, identifying as vectorOf};
+ghost use Rattle.matrix.specs.Shape.{digitAt};
 ghost use Rattle.matrix.specs.laws.Shape.{topValue};
-ghost use Rattle.matrix.specs.laws.WriteColumn.{digitAt, unitAt, Blank, Written};
+ghost use Rattle.matrix.specs.laws.WriteColumn.{unitAt, Blank, Written};
 ghost use Rattle.matrix.specs.laws.Tests.{pivotOf};
 ghost use Rattle.matrix.specs.laws.RowReduced.{rowsAbove, rowAbove};
 

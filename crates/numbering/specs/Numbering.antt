@@ -39,10 +39,12 @@ pub record Numbering : Type 1 where
   pub typed : ℕ → Index
 
 abbrev pub extendedNumbering : Numbering
-extendedNumbering = record { index = extendedIndex; matrix = drawnExtended; order = extendedBefore; typed = λ i. Extended (record { 0 = i }) }
+extendedNumbering =
+    record { index = extendedIndex; matrix = drawnExtended; order = extendedBefore; typed = λ i. Extended (record { 0 = i }) }
 
 abbrev pub ferrersNumbering : Numbering
-ferrersNumbering = record { index = ferrersIndex; matrix = drawnFerrers; order = ferrersBefore; typed = λ i. Ferrers (record { 0 = i }) }
+ferrersNumbering =
+    record { index = ferrersIndex; matrix = drawnFerrers; order = ferrersBefore; typed = λ i. Ferrers (record { 0 = i }) }
 
 unfoldable pub numberingOf : ℕ → Numbering
 numberingOf t = pick (eqb t extended) extendedNumbering ferrersNumbering

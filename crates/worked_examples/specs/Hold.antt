@@ -22,10 +22,10 @@ use Rattle.matrix.specs.laws.Shape.{topValue}
 use Rattle.extended.specs.Extended.{onesAmong, extendedTermAt, extendedTerm, extendedIndex, extendedColumn, extendedBefore}
 use Rattle.extended.specs.Drawn.{extendedShape, drawnExtended}
 use Rattle.extended.specs.laws.ShapeRank.{extendedRank}
-use Rattle.ferrers.specs.Partitions.{partitionsRow, partitions}
+use Rattle.partitions.specs.Partitions.{partitionsRow, partitions, boxCount}
 use Rattle.ferrers.specs.Ferrers.{freeFrom, freeColumns, dots, diagram, total, size, dottedFrom, tableauOf, tableau, tableauValue}
 use Rattle.ferrers.specs.Ferrers.{diagramTerm, diagramPlace, largerDiagrams, ferrersIndex}
-use Rattle.ferrers.specs.Drawn.{boxCount, diagramShape, sizedShape, ferrersShape, drawnFerrers}
+use Rattle.ferrers.specs.Drawn.{diagramShape, sizedShape, ferrersShape, drawnFerrers}
 use Rattle.ferrers.specs.laws.ShapeRank.{shapeSize, shapePlace, shapeTableau, ferrersRank}
 use Rattle.linear.specs.Eliminate.{leadOf, eliminate, residue, monic, place, insertResidue, insertRow, insertRows, reducedRows, join}
 use Rattle.linear.specs.Eliminate.{reducedOf, dimension}

@@ -1,9 +1,11 @@
 -- Numbers in a base q, read from their digits and written as digits.
 --   Digits q ds        == every entry of the list ds is below q
+--   digits-joined      == digits after digits after a number t are all the digits after t
 --   value-append       == the digits ds before es: the value of ds times q to es's length, and the value of es
 --   value-zeros        == w zeros after ds: the value of ds times q^w
 --   value-below        == a list of digits has a value below q to its length
 --   value-digits       == a number below q^k is the value of its k digits
+--   lower-digit        == a digit is not changed by the ones above it
 --   digit-of-value     == the i-th digit of a list's value is its i-th entry
 --   value-injective    == equally many digits with the same value are the same
 -- Assumes nothing.
@@ -40,6 +42,12 @@ use Rattle.basics.specs.laws.TableSize.{tabulate-length}
 abbrev pub Digits : ℕ → List ℕ → Type 0
 Digits q ds = (i : ℕ) → i < length ds → getD ds i 0 < q
 
+pub digits-joined : (q t r x z y : ℕ) → t * q ^ (r + z) + (x * q ^ z + y) ≡ (t * q ^ r + x) * q ^ z + y
+digits-joined q t r x z y = ap (λ p. t * p + (x * q ^ z + y)) (pow-add q r z) ∙ joined (q ^ r) (q ^ z)
+  where
+    joined : (a b : ℕ) → t * (a * b) + (x * b + y) ≡ (t * a + x) * b + y
+    joined a b = omega arith
+
 pub value-append : (q : ℕ) (ds es : List ℕ) → value q (ds ++ es) ≡ value q ds * q ^ length es + value q es
 unfolding value
 value-append q [] es = rw (zero-mul, zero-add)
@@ -73,8 +81,7 @@ digits-from q x k i (suc m) h e =
 pub value-digits : (q k x : ℕ) → 0 < q → x < q ^ k → value q (tabulate (λ i. x / q ^ (pred k - i) % q) 0 k) ≡ x
 value-digits q k x h b = digits-from q x k 0 k h (zero-add k) ∙ mod-eq-of-lt b
 
--- a digit is not changed by the ones above it
-lower-digit : (q d v i e : ℕ) → 0 < q → (d * q ^ (suc i + e) + v) / q ^ e % q ≡ v / q ^ e % q
+pub lower-digit : (q d v i e : ℕ) → 0 < q → (d * q ^ (suc i + e) + v) / q ^ e % q ≡ v / q ^ e % q
 lower-digit q d v i e h =
     rw (pow-add, ← mul-assoc, mul-add-div-right (one-le-pow e q h), pow-suc, ← mul-assoc, mul-add-mod-self-right)
 

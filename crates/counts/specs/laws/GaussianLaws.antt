@@ -80,10 +80,12 @@ gaussian-dual q n k zero e =
     rw (same, gaussian-whole q (suc k), gaussian-none q k (suc k), gaussian-whole q k, pow-zero, le-refl (suc k))
 gaussian-dual q zero k (suc d) e = absurd (omega arith)
 gaussian-dual q (suc n) zero (suc d) e =
-    ap (λ g. q ^ 1 * g + 1) (gaussian-dual q n zero d (omega arith)) ∙ rw (pow-succ' q 0, pow-zero, pow-succ' q d) (line q (q ^ d) (gaussian q n 1))
+    ap (λ g. q ^ 1 * g + 1) (gaussian-dual q n zero d (omega arith))
+    ∙ rw (pow-succ' q 0, pow-zero, pow-succ' q d) (line q (q ^ d) (gaussian q n 1))
 gaussian-dual q (suc n) (suc k) (suc d) e =
     ap₂ (λ a b. q ^ suc (suc k) * a + b) (gaussian-dual q n (suc k) d (omega arith)) (gaussian-dual q n k (suc d) (omega arith))
-    ∙ rw (pow-succ' q (suc k), pow-succ' q d) (exchange q (q ^ suc k) (q ^ d) (gaussian q n (suc (suc k))) (gaussian q n (suc k)) (gaussian q n k))
+    ∙ rw (pow-succ' q (suc k), pow-succ' q d)
+    (exchange q (q ^ suc k) (q ^ d) (gaussian q n (suc (suc k))) (gaussian q n (suc k)) (gaussian q n k))
 
 mirrored : (q n k d : ℕ) → n ≡ k + d → gaussian q n k ≡ gaussian q n d
 unfolding gaussian

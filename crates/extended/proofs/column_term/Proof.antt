@@ -18,7 +18,9 @@ sub-ones-below c = search needs
 ones-below-requires : tie.Need-ones-below-requires
 ones-below-requires c κs = search needs
 
-w-is : (c : tie.After-ones-below) → let a = c .before .before .args in c .ones-below .result ≡ onesAmong (a .n) (a .k) (a .m .now) (a .j - 1)
+w-is : (c : tie.After-ones-below) →
+    let a = c .before .before .args in
+    c .ones-below .result ≡ onesAmong (a .n) (a .k) (a .m .now) (a .j - 1)
 w-is c =
     let s = c .before .before in
     c .ones-below .ensures ∙ vector-ones _ _ _ _ _ (s .pre .2) (s .pre .3) (s .pre .4)

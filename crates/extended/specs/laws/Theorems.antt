@@ -5,7 +5,6 @@
 --   drawn-reduced      == what an index below the count draws is a reduced matrix
 --   index-of-drawn     == the drawn matrix has the index
 --   drawn-of-index     == a reduced matrix is drawn by its index
---   drawn-injective    == no matrix is drawn by two indexes
 --   index-injective    == reduced matrices with the same index are equal
 --   before-irreflexive, before-transitive, before-total == of two different reduced matrices exactly one comes first
 --   before-index       == what comes first has the smaller index
@@ -92,9 +91,6 @@ module _ (q n k : ℕ) (size : 1 < q) where
       let (s, p) = peeled-of r in
       ap (λ t. flatten k n (cell q t k n)) (ap (extendedShape q n k) (extended-formula size r p) ∙ shape-of-rank (peeled-valid p))
       ∙ sym (shape-matrix r p)
-
-  pub drawn-injective : (i j : ℕ) → i < gaussian q n k → j < gaussian q n k → drawnExtended q n k i ≡ drawnExtended q n k j → i ≡ j
-  drawn-injective i j h b e = sym (index-of-drawn i h) ∙ ap (extendedIndex q n k) e ∙ index-of-drawn j b
 
   pub index-injective : {a b : List ℕ} → Reduced q n k a → Reduced q n k b → extendedIndex q n k a ≡ extendedIndex q n k b → a ≡ b
   index-injective r t e = sym (drawn-of-index r) ∙ ap (drawnExtended q n k) e ∙ drawn-of-index t

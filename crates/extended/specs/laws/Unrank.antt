@@ -15,7 +15,8 @@ use lib.Dec.{T}
 use lib.ListN.{length, replicate}
 use Rattle.field.specs.Field.{isFieldSize}
 use Rattle.field.specs.laws.Small.{size-small}
-use Rattle.matrix.specs.laws.WriteColumn.{digitAt, unitAt, Blank, Written}
+use Rattle.matrix.specs.laws.WriteColumn.{unitAt, Blank, Written}
+use Rattle.matrix.specs.Shape.{digitAt}
 use Rattle.matrix.specs.laws.DrawColumns.{Drawing, drawing-start, drawing-blank, drawing-free, drawing-pivot, drawing-end}
 use Rattle.counts.specs.Gaussian.{gaussian, greatestCount, tableEntry}
 use Rattle.counts.specs.laws.GaussianLaws.{gaussian-longer-le, gaussian-pivot-le}

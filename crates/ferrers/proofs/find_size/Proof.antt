@@ -2,7 +2,7 @@
 use mathlib.Core.Path.{refl}
 use native.Mathlib.Omega.{arith}
 use Rattle.ferrers.specs.laws.FindSize.{Searching, searching-start, searching-found, searching-next, searching-end}
-use Rattle.ferrers.specs.laws.Weight.{size-short}
+use Rattle.partitions.specs.laws.Box.{box-short}
 use Rattle.ferrers.proofs.find_size.Statement.{statement}
 use Rattle.ferrers.proofs.find_size.Tie as tie
 
@@ -19,7 +19,7 @@ sub-limit : tie.Need-sub-limit Inv-loop μ-loop
 sub-limit c = omega arith
 
 mul-limit : tie.Need-mul-limit Inv-loop μ-loop
-mul-limit c = let a = c .before .args in omega (arith, size-short (a .n) (omega arith) (a .k) (omega arith))
+mul-limit c = let a = c .before .args in omega (arith, box-short (a .n) (omega arith) (a .k) (omega arith))
 
 loop-holds : tie.Need-loop-holds Inv-loop μ-loop
 loop-holds c = searching-start (c .before .pre .0 .dimension) (c .before .pre .1)

@@ -3,7 +3,8 @@ use mathlib.Core.Path.{refl}
 use Prim.Native.Nat.{_+_, _-_, _≤_}
 use native.Mathlib.Omega.{arith}
 use Rattle.counts.specs.Gaussian.{greatestCount}
-use Rattle.ferrers.specs.laws.Weight.{Adding, adding-start, adding-step, adding-end, size-short}
+use Rattle.ferrers.specs.laws.Weight.{Adding, adding-start, adding-step, adding-end}
+use Rattle.partitions.specs.laws.Box.{box-short}
 use Rattle.ferrers.proofs.larger.Statement.{statement}
 use Rattle.ferrers.proofs.larger.Tie as tie
 
@@ -20,7 +21,7 @@ sub-limit : tie.Need-sub-limit Inv-loop μ-loop
 sub-limit c = omega arith
 
 mul-limit : tie.Need-mul-limit Inv-loop μ-loop
-mul-limit c = let a = c .before .args in omega (arith, size-short (a .n) (omega arith) (a .k) (omega arith))
+mul-limit c = let a = c .before .args in omega (arith, box-short (a .n) (omega arith) (a .k) (omega arith))
 
 loop-holds : tie.Need-loop-holds Inv-loop μ-loop
 loop-holds c = (omega (arith, c .before .pre .1), adding-start _ _ _)

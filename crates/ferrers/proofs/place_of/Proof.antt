@@ -7,7 +7,7 @@ use Prim.Native.Nat.{ℕ, _+_, _-_, _≤_}
 use native.Mathlib.Omega.{arith}
 use Rattle.ferrers.specs.laws.IndexParts.{parts}
 use Rattle.ferrers.specs.laws.PlaceOf.{Placing, PlacedPivot, PlacedFree, placing-start, placing-pivot, placing-free, placing-end}
-use Rattle.ferrers.specs.Drawn.{freeCount}
+use Rattle.partitions.specs.Partitions.{freeCount}
 use Rattle.ferrers.proofs.place_of.Statement.{statement}
 use Rattle.ferrers.proofs.place_of.Tie as tie
 

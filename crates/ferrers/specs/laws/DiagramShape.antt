@@ -18,9 +18,10 @@ use Rattle.basics.specs.laws.Order.{le-or-lt}
 use Rattle.basics.specs.Sum.{bit}
 use Rattle.matrix.specs.Shape.{Shape, free, pivot}
 use Rattle.matrix.specs.laws.Shape.{Valid, valid-empty, valid-free, valid-pivot}
-use Rattle.ferrers.specs.laws.Box.{box-no-row, box-next, box-beyond, free-all}
-use Rattle.ferrers.specs.laws.Less.{less-at, less-add, less-none}
-use Rattle.ferrers.specs.Drawn.{boxCount, freeCount, diagramShape}
+use Rattle.partitions.specs.laws.Box.{box-no-row, box-next, box-beyond, free-all}
+use Rattle.partitions.specs.laws.Less.{less-at, less-add, less-none}
+use Rattle.partitions.specs.Partitions.{boxCount, freeCount}
+use Rattle.ferrers.specs.Drawn.{diagramShape}
 use Rattle.ferrers.specs.laws.ShapeRank.{shapeSize, shapePlace, shapeTableau}
 use Rattle.ferrers.specs.laws.ShapeBounds.{place-below, tableau-below, place-free}
 

@@ -14,8 +14,9 @@ use borrow.Author.Tests.{lt-ltb, le-ltb}
 use Rattle.basics.specs.Sum.{sum}
 use Rattle.counts.specs.Gaussian.{gaussian}
 use Rattle.matrix.specs.Shape.{cell, flatten}
-use Rattle.ferrers.specs.laws.GaussianPartitions.{weight, gaussian-sized}
-use Rattle.ferrers.specs.Drawn.{boxCount, diagramShape, sizedShape, ferrersShape, drawnFerrers}
+use Rattle.partitions.specs.laws.GaussianPartitions.{weight, gaussian-sized}
+use Rattle.partitions.specs.Partitions.{boxCount}
+use Rattle.ferrers.specs.Drawn.{diagramShape, sizedShape, ferrersShape, drawnFerrers}
 
 pub record Found (q n k index size rest : ℕ) : Type 0 where
   pub within : size ≤ k * (n - k)

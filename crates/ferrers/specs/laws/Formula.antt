@@ -15,9 +15,9 @@ use Rattle.matrix.specs.Shape.{Shape}
 use Rattle.matrix.specs.laws.Shape.{Peeled}
 use Rattle.ferrers.specs.laws.DiagramFormula.{diagram-formula, size-formula}
 use Rattle.ferrers.specs.Ferrers.{diagram, size, diagramPlace, largerDiagrams, ferrersIndex}
-use Rattle.ferrers.specs.laws.GaussianPartitions.{weight}
-use Rattle.ferrers.specs.Partitions.{partitions}
-use Rattle.ferrers.specs.laws.PartitionsLaws.{box-partitions}
+use Rattle.partitions.specs.laws.GaussianPartitions.{weight}
+use Rattle.partitions.specs.Partitions.{partitions}
+use Rattle.partitions.specs.laws.PartitionsLaws.{box-partitions}
 use Rattle.ferrers.specs.laws.PlaceFormula.{place-of-shape}
 use Rattle.ferrers.specs.laws.ShapeRank.{shapeSize, shapePlace, ferrersRank}
 use Rattle.ferrers.specs.laws.ShapeBounds.{valid-rows}

@@ -13,7 +13,7 @@ use Prim.Native.Nat.{ℕ, zero, suc, _+_, _*_, _-_, _^_, _/_, _<_, _≤_}
 use native.Mathlib.Nat.{le-refl, sub-self, pow-zero, pow-suc, div-one, div-div-eq-div-mul}
 use native.Mathlib.Omega.{arith}
 use borrow.Author.Tests.{ne-eqb}
-use lib.Pow.{pow-add}
+use Rattle.basics.specs.laws.Digits.{digits-joined}
 use Rattle.matrix.specs.Shape.{Shape, empty, free, pivot, cell}
 use Rattle.matrix.specs.laws.Shape.{Valid, valid-empty, valid-free, valid-pivot}
 use Rattle.matrix.specs.laws.Vector.{vector}
@@ -75,16 +75,13 @@ inner-free : {q n k c rows x : ℕ} {S s : Shape} → suc c ≤ n → Valid q ro
 unfolding vector cell shapeSize shapeTableau
 inner-free {q} {n} {k} {c} {rows} {x} {S} {s} h v a =
     let two : 2 * vector s / 2 ≡ vector s = omega arith in
-    let Q = q ^ shapeSize s rows in
-    let more : a .higher * (q ^ rows * Q) + (x * Q + shapeTableau q s rows) ≡ (a .higher * q ^ rows + x) * Q + shapeTableau q s rows =
-    omega arith in
     record {
       few = a .few;
       valid = v;
       bits = half n c (vector S) (2 * vector s) h (a .bits) ∙ two;
       cells = λ i j l. a .cells i j (omega arith) ∙ rw (ne-eqb j c (omega arith));
       higher = a .higher * q ^ rows + x;
-      tableau = a .tableau ∙ ap (λ p. a .higher * p + (x * Q + shapeTableau q s rows)) (pow-add q rows (shapeSize s rows)) ∙ more;
+      tableau = a .tableau ∙ digits-joined q (a .higher) rows x (shapeSize s rows) (shapeTableau q s rows);
     }
 
 inner-pivot : {q n k c rows : ℕ} {S s : Shape} → suc c ≤ n → Valid q rows c s → Inner q n k S (suc c) (suc rows) (pivot s)

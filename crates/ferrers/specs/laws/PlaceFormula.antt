@@ -15,13 +15,12 @@ use Rattle.basics.specs.laws.SumLaws.{sum-same, sum-front}
 use Rattle.basics.specs.laws.SumMore.{range-none, range-front, range-last, range-shift, range-same}
 use Rattle.matrix.specs.Shape.{Shape}
 use Rattle.matrix.specs.laws.Shape.{Valid, valid-empty, valid-free, valid-pivot}
-use Rattle.ferrers.specs.laws.Box.{box-beyond}
+use Rattle.partitions.specs.laws.Box.{box-beyond}
 use Rattle.ferrers.specs.Ferrers.{total, heightAt, diagramTerm, diagramPlace}
 use Rattle.ferrers.specs.laws.Heights.{heights, heights-first, heights-total}
-use Rattle.ferrers.specs.laws.Less.{less-same, less-zero, less-taken}
-use Rattle.ferrers.specs.Partitions.{partitionsLess, partitions}
-use Rattle.ferrers.specs.laws.PartitionsLaws.{box-as-partitions}
-use Rattle.ferrers.specs.Drawn.{boxCount, freeCount}
+use Rattle.partitions.specs.laws.Less.{less-same, less-zero, less-taken}
+use Rattle.partitions.specs.Partitions.{partitionsLess, partitions, boxCount, freeCount}
+use Rattle.partitions.specs.laws.PartitionsLaws.{box-as-partitions}
 use Rattle.ferrers.specs.laws.ShapeRank.{shapeSize, shapePlace}
 use Rattle.ferrers.specs.laws.ShapeBounds.{valid-rows, place-free}
 

@@ -20,7 +20,7 @@ use Rattle.ferrers.specs.laws.DiagramFormula.{size-formula}
 use Rattle.ferrers.specs.Ferrers.{size}
 use Rattle.ferrers.specs.laws.Formula.{place-formula}
 use Rattle.ferrers.specs.laws.IndexParts.{placeOf}
-use Rattle.ferrers.specs.Drawn.{freeCount}
+use Rattle.partitions.specs.Partitions.{freeCount}
 use Rattle.ferrers.specs.laws.ShapeRank.{shapeSize, shapePlace}
 
 pub record Placing (q n k : ℕ) (m : List ℕ) (c rows left place : ℕ) : Type 0 where

@@ -15,10 +15,10 @@ use Rattle.basics.specs.Sum.{sumRange, Lex}
 use Rattle.basics.specs.laws.SumMore.{range-rest}
 use Rattle.matrix.specs.Shape.{Shape, free, pivot}
 use Rattle.matrix.specs.laws.Shape.{Valid, valid-empty, valid-free, valid-pivot}
-use Rattle.ferrers.specs.laws.GaussianPartitions.{weight}
+use Rattle.partitions.specs.laws.GaussianPartitions.{weight}
 use Rattle.ferrers.specs.laws.Heights.{heights, heights-first}
-use Rattle.ferrers.specs.laws.Less.{less-at}
-use Rattle.ferrers.specs.Drawn.{boxCount, freeCount}
+use Rattle.partitions.specs.laws.Less.{less-at}
+use Rattle.partitions.specs.Partitions.{boxCount, freeCount}
 use Rattle.ferrers.specs.laws.ShapeRank.{shapeSize, shapePlace, shapeTableau, ferrersRank}
 use Rattle.ferrers.specs.laws.ShapeBounds.{valid-rows, shape-size, place-below, tableau-below}
 

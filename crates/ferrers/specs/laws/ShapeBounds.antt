@@ -17,10 +17,10 @@ use Rattle.basics.specs.laws.SumMore.{sum-range}
 use Rattle.counts.specs.Gaussian.{gaussian}
 use Rattle.matrix.specs.Shape.{Shape, free}
 use Rattle.matrix.specs.laws.Shape.{Valid, valid-empty, valid-free, valid-pivot}
-use Rattle.ferrers.specs.laws.Box.{box-no-row, box-next, box-free-le}
-use Rattle.ferrers.specs.laws.GaussianPartitions.{weight, gaussian-sized}
-use Rattle.ferrers.specs.laws.Less.{less-add}
-use Rattle.ferrers.specs.Drawn.{boxCount}
+use Rattle.partitions.specs.laws.Box.{box-no-row, box-next, box-free-le}
+use Rattle.partitions.specs.laws.GaussianPartitions.{weight, gaussian-sized}
+use Rattle.partitions.specs.laws.Less.{less-add}
+use Rattle.partitions.specs.Partitions.{boxCount}
 use Rattle.ferrers.specs.laws.ShapeRank.{shapeSize, shapePlace, shapeTableau, ferrersRank}
 
 pub valid-rows : {q k n : ℕ} {s : Shape} → Valid q k n s → k ≤ n

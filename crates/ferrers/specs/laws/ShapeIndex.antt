@@ -15,8 +15,9 @@ use Rattle.counts.specs.Gaussian.{gaussian}
 use Rattle.matrix.specs.Shape.{Shape}
 use Rattle.matrix.specs.laws.Shape.{Valid}
 use Rattle.ferrers.specs.laws.DiagramShape.{diagram-of-shape}
-use Rattle.ferrers.specs.laws.GaussianPartitions.{weight, gaussian-sized}
-use Rattle.ferrers.specs.Drawn.{boxCount, diagramShape, sizedShape, ferrersShape}
+use Rattle.partitions.specs.laws.GaussianPartitions.{weight, gaussian-sized}
+use Rattle.partitions.specs.Partitions.{boxCount}
+use Rattle.ferrers.specs.Drawn.{diagramShape, sizedShape, ferrersShape}
 use Rattle.ferrers.specs.laws.ShapeRank.{shapeSize, shapePlace, shapeTableau, ferrersRank}
 use Rattle.ferrers.specs.laws.ShapeBounds.{shape-size, place-below, tableau-below}
 use Rattle.ferrers.specs.laws.SizedShape.{sizedIndex, Sized, sized-valid, index-larger}

@@ -8,7 +8,7 @@
 use Prim.Native.Nat.{ℕ, suc, pred, _+_, _*_, _-_, _^_}
 use Rattle.basics.specs.Sum.{sumRange}
 use Rattle.matrix.specs.Shape.{Shape, empty, free, pivot}
-use Rattle.ferrers.specs.Drawn.{boxCount, freeCount}
+use Rattle.partitions.specs.Partitions.{boxCount, freeCount}
 
 unfoldable pub shapeSize : Shape → ℕ → ℕ
 shapeSize empty k = 0

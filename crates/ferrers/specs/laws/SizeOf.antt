@@ -20,7 +20,7 @@ use Rattle.ferrers.specs.laws.DiagramFormula.{size-formula}
 use Rattle.ferrers.specs.Ferrers.{size}
 use Rattle.ferrers.specs.laws.ShapeRank.{shapeSize}
 use Rattle.ferrers.specs.laws.ShapeBounds.{shape-size, valid-rows}
-use Rattle.ferrers.specs.laws.Weight.{size-short}
+use Rattle.partitions.specs.laws.Box.{box-short}
 
 pub size-within : {q n k : ℕ} {m : List ℕ} → Reduced q n k m → size n k m ≤ k * (n - k)
 size-within r = let (s, p) = peeled-of r in rw (size-formula r p) (shape-size (peeled-valid p))
@@ -28,7 +28,7 @@ size-within r = let (s, p) = peeled-of r in rw (size-formula r p) (shape-size (p
 pub dots-few : {q n k : ℕ} {m : List ℕ} → n ≤ 16 → Reduced q n k m → size n k m ≤ 64
 dots-few {n} {k} h r =
     let (s, p) = peeled-of r in
-    omega (arith, size-within r, size-short n (omega arith) k (omega (arith, valid-rows (peeled-valid p))))
+    omega (arith, size-within r, box-short n (omega arith) k (omega (arith, valid-rows (peeled-valid p))))
 
 pub record Counting (q n k : ℕ) (m : List ℕ) (c rows dots : ℕ) : Type 0 where
   pub shape : Shape

@@ -17,7 +17,7 @@ use Rattle.basics.specs.laws.SumMore.{range-none, range-last}
 use Rattle.matrix.specs.Shape.{Shape}
 use Rattle.matrix.specs.laws.Shape.{Valid}
 use Rattle.ferrers.specs.laws.DiagramShape.{Diagrammed, diagram-valid}
-use Rattle.ferrers.specs.laws.GaussianPartitions.{weight}
+use Rattle.partitions.specs.laws.GaussianPartitions.{weight}
 use Rattle.ferrers.specs.Drawn.{diagramShape, sizedShape}
 use Rattle.ferrers.specs.laws.ShapeRank.{shapeSize, shapePlace, shapeTableau}
 

@@ -12,7 +12,7 @@ use native.Mathlib.Nat.{zero-add, zero-mul, pow-zero, one-le-pow, le-mul-of-pos-
 use native.Mathlib.Omega.{arith}
 use lib.Dec.{eqb}
 use lib.ListN.{length}
-use lib.Pow.{pow-add}
+use Rattle.basics.specs.laws.Digits.{digits-joined}
 use Rattle.matrix.specs.laws.PeelPlace.{Located, located-start}
 use Rattle.matrix.specs.Matrix.{entry, identifying, Reduced}
 use Rattle.matrix.specs.laws.Peel.{peeled-of}
@@ -43,10 +43,6 @@ reading-end {q} {c} {rows} {tableau} z w =
     let none : w .shape ≡ empty = walk-end (rw z at (w .at)) in
     let e : tableau * q ^ 0 + 0 ≡ tableau = rw pow-zero (omega arith) in
     sym e ∙ ap (λ s. tableau * q ^ shapeSize s rows + shapeTableau q s rows) (sym none) ∙ w .whole
-
--- one column more in front of what is read later
-read-next : (t p z x y : ℕ) → t * (p * z) + (x * z + y) ≡ (t * p + x) * z + y
-read-next t p z x y = omega arith
 
 read-within : (a z y total : ℕ) → 0 < z → a * z + y ≡ total → a ≤ total
 read-within a z y total h e = omega (arith, le-mul-of-pos-right a h)
@@ -85,8 +81,7 @@ module _ {q n k c rows tableau : ℕ} {m : List ℕ} (v : ℕ) (is : v ≡ ident
         let x : ℕ = topValue q (entry n m) rows (c - 1) in
         let z : ℕ = shapeSize (p .rest) rows in
         let all : (tableau * q ^ rows + x) * q ^ z + shapeTableau q (p .rest) rows ≡ tableauValue q n k m
-        = sym (read-next tableau (q ^ rows) (q ^ z) x (shapeTableau q (p .rest) rows))
-        ∙ ap (λ y. tableau * y + (x * q ^ z + shapeTableau q (p .rest) rows)) (sym (pow-add q rows z))
+        = sym (digits-joined q tableau rows x z (shapeTableau q (p .rest) rows))
         ∙ ap (λ s. tableau * q ^ shapeSize s rows + shapeTableau q s rows) (sym (p .split))
         ∙ w .whole
         in

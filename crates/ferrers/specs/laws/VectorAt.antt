@@ -21,10 +21,11 @@ use Rattle.basics.specs.Choice.{pick}
 use Rattle.matrix.specs.laws.Bits.{shifted-one}
 use Rattle.matrix.specs.Shape.{Shape, free, pivot}
 use Rattle.matrix.specs.laws.Vector.{vector}
-use Rattle.ferrers.specs.laws.Box.{box-next, free-all}
+use Rattle.partitions.specs.laws.Box.{box-next, free-all}
 use Rattle.ferrers.specs.laws.DiagramShape.{free-fits}
-use Rattle.ferrers.specs.laws.Less.{less-at}
-use Rattle.ferrers.specs.Drawn.{boxCount, freeCount, diagramShape}
+use Rattle.partitions.specs.laws.Less.{less-at}
+use Rattle.partitions.specs.Partitions.{boxCount, freeCount}
+use Rattle.ferrers.specs.Drawn.{diagramShape}
 
 unfoldable pub diagramVector : ℕ → ℕ → ℕ → ℕ → ℕ
 diagramVector zero k m d = 0

@@ -1,6 +1,5 @@
 -- The counts of spaces by the sizes of their diagrams fit 64 bits, for accepted settings; no part of the meaning.
 --   weight-split     == the Gaussian coefficient, split at a size
---   size-short       == a diagram has at most 64 dots
 --   power-within     == q to a size is at most the Gaussian coefficient
 --   Sizes, sizes     == so it, the spaces of that size, and those of that size or larger fit 64 bits; and it is above 0
 --   Adding, adding-start, -step, -end == the spaces of more than i dots, added up size by size from the largest
@@ -12,25 +11,20 @@ use native.Mathlib.Omega.{arith}
 use lib.Dec.{T}
 use Rattle.basics.specs.Sum.{sum, sumRange}
 use Rattle.basics.specs.laws.SumMore.{sum-range, range-none, range-front}
-use Rattle.basics.specs.laws.Test.{everyPair, below}
 use Rattle.field.specs.Field.{isFieldSize}
 use Rattle.field.specs.laws.Small.{size-small}
 use Rattle.counts.specs.Gaussian.{gaussian, greatestCount}
 use Rattle.settings.specs.laws.Accepted.{Accepted}
-use Rattle.ferrers.specs.laws.Box.{box-positive}
+use Rattle.partitions.specs.laws.Box.{box-positive, box-short}
 use Rattle.ferrers.specs.Ferrers.{largerDiagrams}
 use Rattle.ferrers.specs.laws.Formula.{larger-formula}
-use Rattle.ferrers.specs.laws.GaussianPartitions.{weight, gaussian-sized}
-use Rattle.ferrers.specs.Drawn.{boxCount}
+use Rattle.partitions.specs.laws.GaussianPartitions.{weight, gaussian-sized}
+use Rattle.partitions.specs.Partitions.{boxCount}
 
 pub weight-split : (q n k i : ℕ) → k ≤ n → i ≤ k * (n - k)
     → gaussian q n k ≡ sum i (weight q n k) + weight q n k i + sumRange (suc i) (k * (n - k)) (weight q n k)
 weight-split q n k i rows h =
     gaussian-sized q n k (n - k) (sym (add-sub-of-le rows)) ∙ sum-range i (k * (n - k)) (weight q n k) h
-
--- by one computed test
-pub size-short : (n : ℕ) → n < 17 → (k : ℕ) → k < 17 → k * (n - k) < 65
-size-short = everyPair 17 (λ n k. k * (n - k) < 65) (λ n k. below (k * (n - k)) 65) .shows tt
 
 pub power-within : (q n k i : ℕ) → k ≤ n → i ≤ k * (n - k) → q ^ i ≤ gaussian q n k
 power-within q n k i rows h =
@@ -49,7 +43,7 @@ pub sizes : {q n k : ℕ} (i : ℕ) → Accepted q n k → i ≤ k * (n - k) →
 sizes {q} {n} {k} i a h =
     record {
       size = a .size;
-      short = omega (arith, size-short n (omega (arith, a .narrow)) k (omega (arith, a .narrow, a .dimension)));
+      short = omega (arith, box-short n (omega (arith, a .narrow)) k (omega (arith, a .narrow, a .dimension)));
       power = le-trans (power-within q n k i (a .dimension) h) (a .counted);
       positive = one-le-pow i q (le-of-lt (size-small q (a .size) .0));
       these = omega (arith, weight-split q n k i (a .dimension) h, a .counted);

@@ -14,19 +14,7 @@ use mathlib.Core.Bool.{true, false}
 use mathlib.Core.List.{List}
 use mathlib.Core.Logic.{_⊎_, inl, inr, ⊎-elim}
 use Prim.Native.Nat.{ℕ, suc, pred, _+_, _*_, _-_, _^_, _/_, _%_, _<_, _≤_}
-use native.Mathlib.Nat.{
-  eq-or-lt-of-le,
-  le-of-eq,
-  le-of-suc-le-suc,
-  pow-zero,
-  pow-suc,
-  one-le-pow,
-  div-one,
-  div-div-eq-div-mul,
-  mul-comm,
-  mul-add-div,
-  mul-add-mod-self-right,
-}
+use native.Mathlib.Nat.{eq-or-lt-of-le, le-of-eq, le-of-suc-le-suc, pow-zero, div-one, div-div-eq-div-mul, mul-comm}
 use native.Mathlib.Numerals.{add-one}
 use native.Mathlib.Omega.{arith}
 use borrow.Author.Tests.{eq-eqb, lt-ltb, le-ltb}
@@ -34,20 +22,22 @@ use lib.Arith.{digits-div}
 use lib.Dec.{eqb}
 use lib.ListN.{length, replicate}
 use lib.Pow.{pow-add}
+use Rattle.basics.specs.laws.Digits.{digits-joined, lower-digit}
 use Rattle.basics.specs.laws.Order.{le-or-lt}
 use Rattle.field.specs.laws.Small.{size-small}
 use Rattle.settings.specs.laws.Accepted.{Accepted}
 use Rattle.matrix.specs.laws.DrawColumns.{drawing-start}
 use Rattle.matrix.specs.laws.Flatten.{flatten-same, flatten-entries}
 use Rattle.matrix.specs.Matrix.{entry}
-use Rattle.matrix.specs.Shape.{Shape, empty, free, pivot, cell, flatten}
+use Rattle.matrix.specs.Shape.{Shape, empty, free, pivot, digitAt, cell, flatten}
 use Rattle.matrix.specs.laws.Shape.{Valid, valid-free, valid-pivot}
 use Rattle.matrix.specs.laws.Vector.{vector}
-use Rattle.matrix.specs.laws.WriteColumn.{digitAt, unitAt, Blank, Written}
+use Rattle.matrix.specs.laws.WriteColumn.{unitAt, Blank, Written}
 use Rattle.ferrers.specs.laws.DiagramShape.{diagram-valid}
 use Rattle.ferrers.specs.laws.VectorAt.{diagramVector, diagram-vector}
 use Rattle.ferrers.specs.laws.Inner.{rest, inner, pivots, valid-pivots, valid-none, Inner, inner-at}
-use Rattle.ferrers.specs.Drawn.{boxCount, diagramShape}
+use Rattle.partitions.specs.Partitions.{boxCount}
+use Rattle.ferrers.specs.Drawn.{diagramShape}
 use Rattle.ferrers.specs.laws.ShapeRank.{shapeSize, shapeTableau}
 use Rattle.ferrers.specs.laws.ShapeBounds.{tableau-below}
 
@@ -79,15 +69,9 @@ last-digits q higher x rows i h = cases (le-or-lt rows i)
     cases : (rows ≤ i) ⊎ (i < rows) → digitAt q rows (higher * q ^ rows + x) i ≡ digitAt q rows x i
     cases (inl l) = rw (le-ltb i rows l)
     cases (inr l) =
-        let e = pred rows - i in
-        let p = q ^ e in
-        let split : rows ≡ e + suc i = omega arith in
-        let power : q ^ rows ≡ p * (q ^ i * q) = ap (λ j. q ^ j) split ∙ pow-add q e (suc i) ∙ ap (λ y. p * y) (pow-suc q i) in
-        let front : higher * (p * (q ^ i * q)) ≡ p * (higher * q ^ i * q) = omega arith in
-        rw (lt-ltb i rows l)
-        (ap (λ y. (y + x) / p % q) (ap (λ y. higher * y) power ∙ front)
-        ∙ ap (λ y. y % q) (mul-add-div (one-le-pow e q h) (higher * q ^ i * q) x)
-        ∙ mul-add-mod-self-right (higher * q ^ i) q (x / p))
+        let e : ℕ = pred rows - i in
+        let split : rows ≡ suc i + e = omega arith in
+        rw (lt-ltb i rows l) (ap (λ j. (higher * q ^ j + x) / q ^ e % q) split ∙ lower-digit q higher x i e h)
 
 pub unranking-start : {q n k v tableau : ℕ} {S : Shape} (m : List ℕ) → m ≡ replicate (k * n) 0 → Shaped q n k v tableau S
     → Unranking q n k S m 0 0 tableau
@@ -131,8 +115,7 @@ module _ {q n k c rows entries : ℕ} {S : Shape} {m m′ : List ℕ} (inside : 
       let z = shapeSize s rows in
       let Q = q ^ z in
       let t = shapeTableau q s rows in
-      let more : a .higher * (q ^ rows * Q) + (x * Q + t) ≡ (a .higher * q ^ rows + x) * Q + t = omega arith in
-      let all : T ≡ (a .higher * q ^ rows + x) * Q + t = a .tableau ∙ ap (λ p. a .higher * p + (x * Q + t)) (pow-add q rows z) ∙ more in
+      let all : T ≡ (a .higher * q ^ rows + x) * Q + t = a .tableau ∙ digits-joined q (a .higher) rows x z t in
       let now : entries ≡ a .higher * q ^ rows + x =
       d .entries-are ∙ ap (λ y. y / Q) all ∙ digits-div (a .higher * q ^ rows + x) (tableau-below v) in
       let last : (i : ℕ) → cell q (free x s) rows (suc c) i c ≡ digitAt q rows x i = λ i. rw (eq-eqb c c refl) in

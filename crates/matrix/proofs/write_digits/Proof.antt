@@ -4,7 +4,8 @@ use Prim.Native.Nat.{suc, _-_, _*_, _+_, _^_, _/_, _≤_}
 use native.Mathlib.Omega.{arith}
 use lib.ListN.{length}
 use Rattle.basics.specs.laws.Flat.{row-fits}
-use Rattle.matrix.specs.laws.WriteColumn.{digitAt, WrittenFrom, written-start, written-all, written-step, step-digit, rest-whole}
+use Rattle.matrix.specs.Shape.{digitAt}
+use Rattle.matrix.specs.laws.WriteColumn.{WrittenFrom, written-start, written-all, written-step, step-digit, rest-whole}
 use Rattle.matrix.proofs.write_digits.Statement.{statement}
 use Rattle.matrix.proofs.write_digits.Tie as tie
 

@@ -14,9 +14,9 @@ use borrow.Author.Tests.{eq-eqb, ne-eqb}
 use lib.ListN.{length, getD, replicate, length-replicate, getD-replicate, List·getD-eq-default}
 use Rattle.basics.specs.laws.Order.{le-or-lt}
 use Rattle.matrix.specs.Matrix.{entry}
-use Rattle.matrix.specs.Shape.{Shape, free, pivot, cell, flatten}
+use Rattle.matrix.specs.Shape.{Shape, free, pivot, digitAt, cell, flatten}
 use Rattle.matrix.specs.laws.Flatten.{flatten-same, flatten-entries}
-use Rattle.matrix.specs.laws.WriteColumn.{digitAt, unitAt, Blank, Written}
+use Rattle.matrix.specs.laws.WriteColumn.{unitAt, Blank, Written}
 
 pub record Drawing (q n k : ℕ) (S : Shape) (m : List ℕ) (c rows : ℕ) (s : Shape) : Type 0 where
   pub sized : length m ≡ k * n

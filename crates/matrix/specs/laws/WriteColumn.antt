@@ -1,5 +1,4 @@
 -- What a column's writing leaves; the contracts of `matrix::write_digits` and `matrix::write_pivot`, and their steps.
---   digitAt q rows x i    == entry i of a column whose first `rows` entries are the base-q digits of x and whose others are 0
 --   unitAt row i          == entry i of a column that is 1 in the given row and 0 in the others
 --   Blank n k c from m    == the entries of column c from row `from` on are 0
 --   Written n k c f m m′  == m′ is m with entry i of column c put to f i, for each of the k rows
@@ -14,17 +13,14 @@ use Prim.Native.Nat.{ℕ, suc, pred, _+_, _*_, _-_, _^_, _/_, _%_, _<_, _≤_}
 use native.Mathlib.Nat.{eq-or-lt-of-le, div-div-eq-div-mul, pow-suc, pow-zero, div-one}
 use native.Mathlib.Omega.{arith}
 use borrow.Author.Tests.{lt-ltb, le-ltb, eq-eqb, ne-eqb}
-use lib.Dec.{eqb, ltb}
+use lib.Dec.{eqb}
 use lib.ListN.{length, getD, set, length-set}
 use lib.Seq.{getD-set-same, getD-set-other}
-use Rattle.basics.specs.Choice.{pick}
 use Rattle.basics.specs.laws.Order.{same-or-not}
 use Rattle.basics.specs.Sum.{bit}
 use Rattle.basics.specs.laws.Flat.{row-fits, flat-column, flat-row}
 use Rattle.matrix.specs.Matrix.{entry}
-
-abbrev pub digitAt : ℕ → ℕ → ℕ → ℕ → ℕ
-digitAt q rows x i = pick (ltb i rows) (x / q ^ (pred rows - i) % q) 0
+use Rattle.matrix.specs.Shape.{digitAt}
 
 abbrev pub unitAt : ℕ → ℕ → ℕ
 unitAt row i = bit (eqb i row)

@@ -4,7 +4,6 @@
 --   boxTable             == for each n and k of 0 to 16 such a list, one after the other
 -- Assumes nothing.
 use mathlib.Core.Path.{_≡_, refl, ap, ap₂, _∙_, sym}
-use mathlib.Core.Bool.{Bool, true, false}
 use mathlib.Core.Logic.{⊎-elim}
 use mathlib.Core.List.{List, [], _∷_, _++_}
 use Prim.Native.Nat.{ℕ, zero, suc, _+_, _*_, _-_, _/_, _%_, _≤_, _<_, zero-le}
@@ -17,9 +16,9 @@ use lib.Seq.{getD-append-add}
 use Rattle.basics.specs.Choice.{pick}
 use Rattle.basics.specs.laws.Order.{le-or-lt}
 use Rattle.basics.specs.laws.Ragged.{ragged}
-use Rattle.ferrers.specs.Partitions.{partitionsLess}
-use Rattle.ferrers.specs.Drawn.{boxCount}
-use Rattle.ferrers.specs.laws.Box.{box-no-row}
+use Rattle.partitions.specs.Partitions.{partitionsLess, boxCount}
+use Rattle.partitions.specs.laws.Box.{box-no-row}
+use Rattle.partitions.specs.laws.Less.{less-zero}
 
 unfoldable pub addRows : List ℕ → List ℕ → List ℕ
 addRows [] ys = ys
@@ -53,16 +52,9 @@ addRows-at (x ∷ xs) (y ∷ ys) (suc m) = addRows-at xs ys m
 zeros-length : (k : ℕ) → length (zeros k) ≡ k
 zeros-length k = length-replicate k 0
 
-less-none : (m t : ℕ) → partitionsLess (λ x. 0) m t ≡ 0
-less-none m t = cases (leb t m)
-  where
-    cases : (b : Bool) → _≡_ {A = ℕ} (pick b 0 0) 0
-    cases true = refl
-    cases false = refl
-
 shifted-at : (k : ℕ) (row : List ℕ) (m : ℕ) → getD (shifted k row) m 0 ≡ partitionsLess (λ x. getD row x 0) m k
 unfolding shifted
-shifted-at k [] m = sym (less-none m k)
+shifted-at k [] m = sym (less-zero (λ x. 0) m k (λ _. refl))
 shifted-at k (x ∷ xs) m = ⊎-elim later sooner (le-or-lt k m)
   where
     later : k ≤ m → getD (zeros k ++ (x ∷ xs)) m 0 ≡ partitionsLess (λ j. getD (x ∷ xs) j 0) m k
@@ -82,8 +74,8 @@ nextRows-at : (k : ℕ) (before : List ℕ) (rows : List (List ℕ)) (j m : ℕ)
     → getD (getD (nextRows k before rows) j []) m 0
     ≡ partitionsLess (λ x. getD (getD rows j []) x 0) m (k + j) + getD (getD (before ∷ rows) j []) m 0
 unfolding nextRows
-nextRows-at k before [] zero m = rw (less-none m (k + 0), zero-add)
-nextRows-at k before [] (suc j) m = rw (less-none m (k + suc j))
+nextRows-at k before [] zero m = rw (less-zero (λ x. 0) m (k + 0) (λ _. refl), zero-add)
+nextRows-at k before [] (suc j) m = rw (less-zero (λ x. 0) m (k + suc j) (λ _. refl))
 nextRows-at k before (row ∷ rows) zero m =
     addRows-at (shifted k row) before m
     ∙ ap (λ a. a + getD before m 0) (shifted-at k row m ∙ ap (partitionsLess (λ x. getD row x 0) m) (sym (add-zero k)))

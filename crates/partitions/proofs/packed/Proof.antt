@@ -1,9 +1,9 @@
--- `ferrers::packed` meets its contract: a shift is a division by a power of two.
+-- `partitions::packed` meets its contract: a shift is a division by a power of two.
 use mathlib.Core.Path.{ap}
 use Prim.Native.Nat.{_*_, _^_, _/_, _%_}
 use borrow.Author.Needs.{needs}
-use Rattle.ferrers.proofs.packed.Statement.{statement}
-use Rattle.ferrers.proofs.packed.Tie as tie
+use Rattle.partitions.proofs.packed.Statement.{statement}
+use Rattle.partitions.proofs.packed.Tie as tie
 
 word-requires : tie.Need-word-requires
 word-requires c κs = search needs

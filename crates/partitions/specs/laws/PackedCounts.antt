@@ -17,7 +17,7 @@ use Rattle.basics.specs.Sum.{sum}
 use Rattle.basics.specs.Table.{tabulate}
 use Rattle.counts.specs.laws.Halves.{halfPlace}
 use Rattle.counts.specs.laws.Nearer.{nearer}
-use Rattle.ferrers.specs.laws.BoxTable.{level}
+use Rattle.partitions.specs.laws.BoxTable.{level}
 
 -- how many counts of the box of n rows and columns together, a on its shorter side, are kept; n and a stand at n * 9 + a
 abbrev kept : ℕ → ℕ

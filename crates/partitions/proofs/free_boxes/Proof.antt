@@ -1,10 +1,10 @@
--- `ferrers::free_boxes` meets its contract: the free column's dots are taken off the size, where it has so many.
+-- `partitions::free_boxes` meets its contract: the free column's dots are taken off the size, where it has so many.
 use mathlib.Core.Path.{_∙_, sym}
 use borrow.Author.Needs.{needs}
-use Rattle.ferrers.specs.laws.Less.{less-at, less-none}
-use Rattle.ferrers.specs.Drawn.{boxCount}
-use Rattle.ferrers.proofs.free_boxes.Statement.{statement}
-use Rattle.ferrers.proofs.free_boxes.Tie as tie
+use Rattle.partitions.specs.laws.Less.{less-at, less-none}
+use Rattle.partitions.specs.Partitions.{boxCount}
+use Rattle.partitions.proofs.free_boxes.Statement.{statement}
+use Rattle.partitions.proofs.free_boxes.Tie as tie
 
 returns : tie.Need-returns
 returns c = let a = c .before .args in sym (less-none (boxCount (a .n) (a .k)) _ _ (c .if1 .taken))

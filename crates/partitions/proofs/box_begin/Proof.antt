@@ -1,10 +1,10 @@
--- `ferrers::box_begin` meets its contract: the look-up at the place of the box.
+-- `partitions::box_begin` meets its contract: the look-up at the place of the box.
 use mathlib.Core.Path.{_∙_, ap}
 use lib.ListN.{getD}
-use Rattle.ferrers.specs.laws.PackedCounts.{begins}
+use Rattle.partitions.specs.laws.PackedCounts.{begins}
 use borrow.Author.Needs.{needs}
-use Rattle.ferrers.proofs.box_begin.Statement.{statement}
-use Rattle.ferrers.proofs.box_begin.Tie as tie
+use Rattle.partitions.proofs.box_begin.Statement.{statement}
+use Rattle.partitions.proofs.box_begin.Tie as tie
 
 half-place-requires : tie.Need-half-place-requires
 half-place-requires c κs = search needs

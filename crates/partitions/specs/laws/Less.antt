@@ -15,7 +15,7 @@ use borrow.Author.Tests.{le-leb, lt-leb}
 use lib.Dec.{leb}
 use Rattle.basics.specs.Choice.{pick}
 use Rattle.basics.specs.laws.Order.{le-or-lt}
-use Rattle.ferrers.specs.Partitions.{partitionsLess}
+use Rattle.partitions.specs.Partitions.{partitionsLess}
 
 pub less-at : (p : ℕ → ℕ) (m t : ℕ) → t ≤ m → partitionsLess p m t ≡ p (m - t)
 less-at p m t h = rw (le-leb t m h)

@@ -1,5 +1,5 @@
 -- The packed partition counts: their rule at the places where the code reads, and the bounds of these places.
-use mathlib.Core.Path.{_≡_, refl, ap, ap₂, _∙_, sym}
+use mathlib.Core.Path.{_≡_, ap, ap₂, _∙_, sym}
 use mathlib.Core.List.{List, []}
 use Prim.Native.Nat.{ℕ, _+_, _*_, _-_, _<_, _≤_, _/_, _%_}
 use native.Mathlib.Omega.{arith}
@@ -7,14 +7,14 @@ use borrow.Author.Tests.{le-leb}
 use lib.ListN.{getD, length}
 use Rattle.basics.specs.laws.Ragged.{ragged, ragged-at}
 use Rattle.basics.specs.Sum.{sum}
-use Rattle.basics.specs.laws.Test.{every, equal, below}
+use Rattle.basics.specs.laws.Test.{every, equal, equalLists, below}
 use Rattle.basics.specs.Table.{tabulate}
 use Rattle.basics.specs.laws.Table.{table-at}
 use Rattle.basics.specs.laws.TableSize.{tabulate-length}
 use Rattle.counts.specs.laws.Halves.{halfPlace, half-below}
-use Rattle.ferrers.specs.Drawn.{boxCount}
-use Rattle.ferrers.specs.laws.BoxTable.{boxRow, boxSize, boxTable, level, nextRows, addRows, shifted, level-at}
-use Rattle.ferrers.specs.laws.PackedCounts.{keptCounts, packFour, words, begins, boxBegin, readBox}
+use Rattle.partitions.specs.Partitions.{boxCount}
+use Rattle.partitions.specs.laws.BoxTable.{boxRow, boxSize, boxTable, level, nextRows, addRows, shifted, level-at}
+use Rattle.partitions.specs.laws.PackedCounts.{keptCounts, packFour, words, begins, boxBegin, readBox}
 
 -- each row has its length, by one computed test
 rows-sized : (t : ℕ) → t < 289 → length (boxRow t) ≡ boxSize t
@@ -27,7 +27,7 @@ readRow t = tabulate (readBox (t / 17) (t % 17)) 0 (boxSize t)
 -- all counts are read right, by one computed test
 tables-right : ragged readRow 0 289 ≡ boxTable
 unfolding boxTable ragged tabulate level nextRows addRows shifted keptCounts packFour words begins sum
-tables-right = refl
+tables-right = equalLists (ragged readRow 0 289) boxTable .shows tt
 
 module _ (n k m : ℕ) (narrow : n ≤ 16) (inside : k ≤ n) (room : m ≤ k * (n - k)) where
   row-of : (n * 17 + k) / 17 ≡ n

@@ -1,18 +1,18 @@
--- `ferrers::box_entry` meets its contract: the rule of the packed partition counts at the place of the box and the number of dots.
+-- `partitions::box_entry` meets its contract: the rule of the packed partition counts at the place of the box and the number of dots.
 use mathlib.Core.Path.{ap, ap₂, _∙_, subst}
 use Prim.Native.Nat.{_+_, _≤_}
 use native.Mathlib.Omega.{arith}
 use Rattle.counts.specs.laws.Nearer.{nearer, nearer-twice}
-use Rattle.ferrers.specs.laws.PackedCounts.{packed}
-use Rattle.ferrers.specs.laws.Weight.{size-short}
-use Rattle.ferrers.proofs.Tables.{begin-below, box-at}
+use Rattle.partitions.specs.laws.PackedCounts.{packed}
+use Rattle.partitions.specs.laws.Box.{box-short}
+use Rattle.partitions.proofs.Tables.{begin-below, box-at}
 use borrow.Author.Needs.{needs}
-use Rattle.ferrers.proofs.box_entry.Statement.{statement}
-use Rattle.ferrers.proofs.box_entry.Tie as tie
+use Rattle.partitions.proofs.box_entry.Statement.{statement}
+use Rattle.partitions.proofs.box_entry.Tie as tie
 
 -- the box has room for at most 64 dots
 room : (c : tie.Start) → c .args .limit ≤ 256
-room c = omega (arith, c .pre .3, size-short (c .args .n) (omega arith) (c .args .k) (omega arith))
+room c = omega (arith, c .pre .3, box-short (c .args .n) (omega arith) (c .args .k) (omega arith))
 
 nearer-requires : tie.Need-nearer-requires
 nearer-requires c κs = c .pre .4

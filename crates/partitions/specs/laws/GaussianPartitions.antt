@@ -15,11 +15,10 @@ use Rattle.basics.specs.Sum.{sum}
 use Rattle.basics.specs.laws.SumLaws.{sum-same, sum-zeros, sum-split, sum-front, sum-times}
 use Rattle.basics.specs.laws.SumMore.{sum-add, sum-longer}
 use Rattle.counts.specs.Gaussian.{gaussian}
-use Rattle.ferrers.specs.laws.Box.{box-limit}
-use Rattle.ferrers.specs.laws.Less.{less-add, less-none}
-use Rattle.ferrers.specs.Partitions.{partitions}
-use Rattle.ferrers.specs.laws.PartitionsLaws.{box-partitions}
-use Rattle.ferrers.specs.Drawn.{boxCount, freeCount}
+use Rattle.partitions.specs.laws.Box.{box-limit}
+use Rattle.partitions.specs.laws.Less.{less-add, less-none}
+use Rattle.partitions.specs.Partitions.{partitions, boxCount, freeCount}
+use Rattle.partitions.specs.laws.PartitionsLaws.{box-partitions}
 
 abbrev pub weight : ℕ → ℕ → ℕ → ℕ → ℕ
 weight q n k i = boxCount n k i * q ^ i

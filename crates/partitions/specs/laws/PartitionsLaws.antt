@@ -12,10 +12,9 @@ use native.Mathlib.Nat.{le-add-right, add-sub-of-le}
 use native.Mathlib.Omega.{arith}
 use lib.Dec.{eqb}
 use Rattle.basics.specs.Sum.{bit}
-use Rattle.ferrers.specs.laws.Box.{box-no-row, box-next, box-whole, box-zero, box-limit}
-use Rattle.ferrers.specs.laws.Less.{less-same}
-use Rattle.ferrers.specs.Partitions.{partitionsLess, partitions, partitionsRow}
-use Rattle.ferrers.specs.Drawn.{boxCount}
+use Rattle.partitions.specs.laws.Box.{box-no-row, box-next, box-whole, box-zero, box-limit}
+use Rattle.partitions.specs.laws.Less.{less-same}
+use Rattle.partitions.specs.Partitions.{partitionsLess, partitions, partitionsRow, boxCount}
 
 pub partitions-recurrence : (k η m : ℕ)
     → partitions (suc k) (suc η) m ≡ partitionsLess (partitions (suc k) η) m (suc k) + partitions k (suc η) m

@@ -1,8 +1,8 @@
-// The tables of the Ferrers numbering, as functions: the compiler makes a read-only table of each `match`, which needs no
+// The tables of the partition counts, as functions: the compiler makes a read-only table of each `match`, which needs no
 // stack. Made by tools/tables.
 ghost use mathlib.Core.Path.{_≡_};
 ghost use lib.ListN.{getD};
-ghost use Rattle.ferrers.specs.laws.PackedCounts.{words, begins};
+ghost use Rattle.partitions.specs.laws.PackedCounts.{words, begins};
 
 // Four partition counts of sixteen bits each, the first lowest.
 pub fn word(at: u64) -> u64

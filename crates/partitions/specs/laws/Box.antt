@@ -8,6 +8,7 @@
 --   box-limit     == none of a size above k·η
 --   box-positive  == at least one of each size up to k·η
 --   box-free-le   == those that begin with a free column are among all
+--   box-short     == a box of at most 16 rows and columns together has room for at most 64 dots
 -- Assumes nothing.
 use mathlib.Core.Path.{_≡_, refl, ap, ap₂, _∙_}
 use mathlib.Core.Logic.{_⊎_, inl, inr}
@@ -18,9 +19,10 @@ use native.Mathlib.Omega.{arith}
 use borrow.Author.Tests.{ne-eqb}
 use lib.Dec.{eqb}
 use Rattle.basics.specs.laws.Order.{le-or-lt}
+use Rattle.basics.specs.laws.Test.{everyPair, below}
 use Rattle.basics.specs.Sum.{bit}
-use Rattle.ferrers.specs.laws.Less.{less-at, less-none, less-zero}
-use Rattle.ferrers.specs.Drawn.{boxCount, freeCount}
+use Rattle.partitions.specs.laws.Less.{less-at, less-none, less-zero}
+use Rattle.partitions.specs.Partitions.{boxCount, freeCount}
 
 pub box-no-row : (n m : ℕ) → boxCount n 0 m ≡ bit (eqb m 0)
 unfolding boxCount
@@ -95,3 +97,7 @@ box-positive (suc n) (suc k) (suc η) m e h =
     cases (inr l) f g =
         lt-of-lt-of-le (rw (less-at (boxCount n (suc k)) m (suc k) (omega arith)) (g l))
         (le-add-right (freeCount n (suc k) m) (boxCount n k m))
+
+-- by one computed test
+pub box-short : (n : ℕ) → n < 17 → (k : ℕ) → k < 17 → k * (n - k) < 65
+box-short = everyPair 17 (λ n k. k * (n - k) < 65) (λ n k. below (k * (n - k)) 65) .shows tt

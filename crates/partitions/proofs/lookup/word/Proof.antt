@@ -1,11 +1,11 @@
--- `ferrers::lookup::word` meets its contract: each arm by computing the list's entry at its key.
+-- `partitions::lookup::word` meets its contract: each arm by computing the list's entry at its key.
 -- Made by tools/tables.
 use Rattle.basics.specs.laws.LookUp.{arm, past}
 use Rattle.basics.specs.laws.Ragged.{ragged}
-use Rattle.ferrers.specs.laws.BoxTable.{level, nextRows, addRows, shifted}
-use Rattle.ferrers.specs.laws.PackedCounts.{keptCounts, packFour, words}
-use Rattle.ferrers.proofs.lookup.word.Statement.{statement}
-use Rattle.ferrers.proofs.lookup.word.Tie as tie
+use Rattle.partitions.specs.laws.BoxTable.{level, nextRows, addRows, shifted}
+use Rattle.partitions.specs.laws.PackedCounts.{keptCounts, packFour, words}
+use Rattle.partitions.proofs.lookup.word.Statement.{statement}
+use Rattle.partitions.proofs.lookup.word.Tie as tie
 
 pub word-spec : {M : Type 1} → statement M
 unfolding words packFour keptCounts ragged level nextRows addRows shifted

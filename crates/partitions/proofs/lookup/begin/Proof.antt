@@ -1,12 +1,12 @@
--- `ferrers::lookup::begin` meets its contract: each arm by computing the list's entry at its key.
+-- `partitions::lookup::begin` meets its contract: each arm by computing the list's entry at its key.
 -- Made by tools/tables.
 use Rattle.basics.specs.laws.LookUp.{arm, past}
 use Rattle.basics.specs.laws.Ragged.{ragged}
 use Rattle.basics.specs.Sum.{sum}
 use Rattle.basics.specs.Table.{tabulate}
-use Rattle.ferrers.specs.laws.PackedCounts.{begins}
-use Rattle.ferrers.proofs.lookup.begin.Statement.{statement}
-use Rattle.ferrers.proofs.lookup.begin.Tie as tie
+use Rattle.partitions.specs.laws.PackedCounts.{begins}
+use Rattle.partitions.proofs.lookup.begin.Statement.{statement}
+use Rattle.partitions.proofs.lookup.begin.Tie as tie
 
 pub begin-spec : {M : Type 1} → statement M
 unfolding begins ragged tabulate sum

@@ -1,17 +1,17 @@
--- `ferrers::box_count` meets its contract: beyond the box there is no diagram.
+-- `partitions::box_count` meets its contract: beyond the box there is no diagram.
 use mathlib.Core.Path.{sym}
 use native.Mathlib.Omega.{arith}
-use Rattle.ferrers.specs.laws.Box.{box-beyond, box-limit}
-use Rattle.ferrers.specs.laws.Weight.{size-short}
+use Rattle.partitions.specs.laws.Box.{box-beyond, box-limit}
+use Rattle.partitions.specs.laws.Box.{box-short}
 use borrow.Author.Needs.{needs}
-use Rattle.ferrers.proofs.box_count.Statement.{statement}
-use Rattle.ferrers.proofs.box_count.Tie as tie
+use Rattle.partitions.proofs.box_count.Statement.{statement}
+use Rattle.partitions.proofs.box_count.Tie as tie
 
 returns : tie.Need-returns
 returns c = sym (box-beyond _ _ _ (c .if1 .taken))
 
 mul-limit : tie.Need-mul-limit
-mul-limit c = let a = c .before .args in omega (arith, size-short (a .n) (omega arith) (a .k) (omega arith))
+mul-limit c = let a = c .before .args in omega (arith, box-short (a .n) (omega arith) (a .k) (omega arith))
 
 returns-2 : tie.Need-returns-2
 returns-2 c = sym (box-limit _ _ _ _ (omega arith) (c .if2 .taken))
