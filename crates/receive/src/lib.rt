@@ -62,9 +62,10 @@ pub fn reduced_answer(q: u64, n: u64, k: u64, t: u64, row_count: u64, rows: &[u8
     let width = n as usize;
     let mut matrix = [0u8; 256];
     let mut pivots = [0u8; 16];
-    let d = reduction::reduce(
+    let d = reduction::insert_rows(
         q,
         width,
+        0,
         row_count as usize,
         rows,
         &mut matrix[..width * width],

@@ -11,4 +11,4 @@ pub mod Leads
 pub mod Monic
 pub mod InsertResidue
 pub mod Insert
-pub mod Reduce
+pub mod InsertRows

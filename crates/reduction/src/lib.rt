@@ -7,7 +7,7 @@ ghost use lib.ListN.{length, getD, take, drop, replicate};
 ghost use Rattle.field.specs.Field.{isFieldSize};
 ghost use Rattle.linear.specs.Span.{All, Row, rowsOf};
 ghost use Rattle.linear.specs.Eliminate.{leadOf, eliminate as eliminated, residue as residueOf, monic as monicOf, place as placed};
-ghost use Rattle.linear.specs.Eliminate.{insertRow, join, reducedRows, reducedOf, dimension};
+ghost use Rattle.linear.specs.Eliminate.{insertRow, insertRows, join};
 ghost use Rattle.linear.specs.laws.InsertMany.{Kept};
 ghost use Rattle.reduction.specs.Padded.{padded};
 ghost use Rattle.reduction.specs.laws.Steps.{part, put, Apart, plusMultiple, multiple, leads, above, cleared, swapped, raised};
@@ -208,28 +208,35 @@ pub fn insert(q: u64, n: usize, d: usize, row: &[u8], m: &mut [u8], pivots: &mut
     insert_residue(q, n, d, row, m, pivots)
 }
 
-// Takes the `count` rows of `input` into m, which is all zeros, and answers how many reduced rows it then holds. `pivots` is left with
-// their leads.
-pub fn reduce(
+// Takes the `count` rows of `input` into the d reduced rows of m, which has room for n rows and holds zeros after them, and answers how many
+// there are now; it ends at n. `pivots` holds their leads.
+pub fn insert_rows(
     q: u64,
     n: usize,
+    d: usize,
     count: usize,
     input: &[u8],
     m: &mut [u8],
     pivots: &mut [u8],
 ) -> usize
-    requires { ⌜ T (isFieldSize q) × (length (now input) ≡ count * n) × ((i : ℕ) → i < length (now input) → getD (now input) i 0 < q) ⌝ }
-    requires { ⌜ (now m ≡ replicate (n * n) 0) × (n ≤ length (now pivots)) × (n ≤ 256) ⌝ }
-    ensures { λ r. ⌜ r ≡ dimension q n (rowsOf n count (now (input .entry))) ⌝ }
-    ensures { λ _. ⌜ now (m .exit) ≡ padded (n * n) (reducedOf q n (rowsOf n count (now (input .entry)))) ⌝ }
-    ensures { λ r. ⌜ take r (now (pivots .exit)) ≡ leads n (reducedRows q n (rowsOf n count (now (input .entry)))) ⌝ }
+    requires { ⌜ T (isFieldSize q) × Kept q n (rowsOf n d (now m)) × (now m ≡ padded (n * n) (join (rowsOf n d (now m)))) ⌝ }
+    requires { ⌜ (n ≤ length (now pivots)) × (take d (now pivots) ≡ leads n (rowsOf n d (now m))) × (n ≤ 256) ⌝ }
+    requires { ⌜ (length (now input) ≡ count * n) × ((i : ℕ) → i < length (now input) → getD (now input) i 0 < q) ⌝ }
+    ensures { λ r. ⌜ r ≡ length (insertRows q n (rowsOf n d (now (m .entry))) (rowsOf n count (now (input .entry)))) ⌝ }
+    ensures { λ _. ⌜ now (m .exit)
+        ≡ padded (n * n) (join (insertRows q n (rowsOf n d (now (m .entry))) (rowsOf n count (now (input .entry))))) ⌝ }
+    ensures { λ r. ⌜ take r (now (pivots .exit))
+        ≡ leads n (insertRows q n (rowsOf n d (now (m .entry))) (rowsOf n count (now (input .entry)))) ⌝ }
 {
-    let mut d = 0;
+    let mut held = d;
     let mut i = 0;
     while i < count {
+        if held == n {
+            return held;
+        }
         let at = i * n;
-        d = insert(q, n, d, &input[at..at + n], m, pivots);
+        held = insert(q, n, held, &input[at..at + n], m, pivots);
         i += 1;
     }
-    d
+    held
 }

@@ -1,4 +1,4 @@
--- What the steps of row reduction leave in the bytes: the contracts of the functions that `insert` and `reduce` are made of.
+-- What the steps of row reduction leave in the bytes: the contracts of the functions that `insert` is made of.
 --   part n at m            == the n bytes of m from `at` on
 --   put n at w m           == m with the bytes w in the place of the n bytes from `at` on
 --   Apart n a b            == n bytes from a on and n bytes from b on have none in common
