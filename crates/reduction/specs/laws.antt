@@ -5,7 +5,7 @@ pub mod AddScaled
 pub mod Raise
 pub mod Parts
 pub mod Residue
-pub mod Place
+pub mod PutAmong
 pub mod ClearAbove
 pub mod Leads
 pub mod Monic

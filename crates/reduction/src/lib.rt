@@ -6,8 +6,8 @@ ghost use lib.Dec.{T};
 ghost use lib.ListN.{length, getD, take, drop, replicate};
 ghost use Rattle.field.specs.Field.{isFieldSize};
 ghost use Rattle.linear.specs.Span.{All, Row, rowsOf};
-ghost use Rattle.linear.specs.Eliminate.{leadOf, eliminate as eliminated, residue as residueOf, monic as monicOf, place as placed};
-ghost use Rattle.linear.specs.Eliminate.{insertRow, insertRows, join};
+ghost use Rattle.linear.specs.Eliminate.{leadOf, eliminate as eliminated, residue as residueOf, monic as monicOf};
+ghost use Rattle.linear.specs.Eliminate.{putAmong, insertRow, insertRows, join};
 ghost use Rattle.linear.specs.laws.InsertMany.{Kept};
 ghost use Rattle.reduction.specs.Padded.{padded};
 ghost use Rattle.reduction.specs.laws.Steps.{part, put, Apart, plusMultiple, multiple, leads, above, cleared, swapped, raised};
@@ -155,15 +155,15 @@ fn raise(n: usize, d: usize, at: usize, m: &mut [u8])
 }
 
 // Puts row d among the d rows before it in the order of leads, and clears p, its lead, in the rows above it.
-fn place(q: u64, n: usize, d: usize, p: usize, m: &mut [u8], pivots: &mut [u8])
+fn put_among(q: u64, n: usize, d: usize, p: usize, m: &mut [u8], pivots: &mut [u8])
     requires { ⌜ T (isFieldSize q) × (d * n + n ≤ length (now m)) × All (Row q n) (rowsOf n d (now m))
         × Row q n (part n (d * n) (now m)) ⌝ }
     requires { ⌜ (d < length (now pivots)) × (take d (now pivots) ≡ leads n (rowsOf n d (now m))) × (p < n) × (n ≤ 256)
         × (p ≡ leadOf n (part n (d * n) (now m))) ⌝ }
-    ensures { λ _. ⌜ now (m .exit) ≡ join (placed q n (rowsOf n d (now (m .entry))) (part n (d * n) (now (m .entry))))
+    ensures { λ _. ⌜ now (m .exit) ≡ join (putAmong q n (rowsOf n d (now (m .entry))) (part n (d * n) (now (m .entry))))
         ++ drop (d * n + n) (now (m .entry)) ⌝ }
     ensures { λ _. ⌜ take (d + 1) (now (pivots .exit))
-        ≡ leads n (placed q n (rowsOf n d (now (m .entry))) (part n (d * n) (now (m .entry)))) ⌝ }
+        ≡ leads n (putAmong q n (rowsOf n d (now (m .entry))) (part n (d * n) (now (m .entry)))) ⌝ }
 {
     let at = clear_above(q, n, d, p, m, pivots);
     raise(n, d, at, m);
@@ -188,7 +188,7 @@ fn insert_residue(q: u64, n: usize, d: usize, row: &[u8], m: &mut [u8], pivots: 
         return d;
     }
     monic(q, n, p, &mut m[at..at + n]);
-    place(q, n, d, p, m, pivots);
+    put_among(q, n, d, p, m, pivots);
     d + 1
 }
 

@@ -24,7 +24,7 @@ use Rattle.linear.specs.laws.InsertMany.{Kept, insert-kept}
 use Rattle.linear.specs.laws.ReducedOf.{reduced-le}
 use Rattle.linear.specs.laws.ReducedRows.{rows-sized}
 use Rattle.reduction.specs.Padded.{padded}
-use Rattle.reduction.specs.laws.Place.{place-length}
+use Rattle.reduction.specs.laws.PutAmong.{putAmong-length}
 
 pub padded-length : (size : ℕ) (l : List ℕ) → length l ≤ size → length (padded size l) ≡ size
 unfolding padded
@@ -57,7 +57,7 @@ full-same q laws n {rs} kept full v hv = cases (ℕ-discrete (leadOf n left) n)
           full,
           reduced-le q n (length result) (join result) (insert-kept q laws n rs kept v hv .reduced),
           ap length (insertRow-other q n rs v ne),
-          place-length q n (monic q n left) rs,
+          putAmong-length q n (monic q n left) rs,
         ))
 
 module _ (q : ℕ) (laws : Laws q) (n d : ℕ) (m : List ℕ) (kept : Kept q n (rowsOf n d m)) (held : m ≡ padded (n * n) (join (rowsOf n d m)))

@@ -1,4 +1,4 @@
--- `reduction::place` meets its contract: the rows above are cleared, then row d is raised to its place, and so is its lead.
+-- `reduction::put_among` meets its contract: the rows above are cleared, then row d is raised to its place, and so is its lead.
 use mathlib.Core.Path.{ap, ap₂, sym, _∙_}
 use mathlib.Core.List.{List, _∷_, _++_}
 use Prim.Native.Nat.{ℕ, _+_, _*_, _≤_}
@@ -9,11 +9,11 @@ use Rattle.linear.specs.Span.{rowsOf}
 use Rattle.linear.specs.Eliminate.{join}
 use Rattle.linear.specs.laws.FlatMatrix.{rows-length}
 use Rattle.reduction.specs.laws.Steps.{part, leads, above, cleared, raised}
-use Rattle.reduction.specs.laws.Place.{above-le, place-bytes}
-use Rattle.reduction.specs.laws.Leads.{leads-placed, raised-leads}
+use Rattle.reduction.specs.laws.PutAmong.{above-le, putAmong-bytes}
+use Rattle.reduction.specs.laws.Leads.{leads-among, raised-leads}
 use borrow.Author.Needs.{needs}
-use Rattle.reduction.proofs.place.Statement.{statement}
-use Rattle.reduction.proofs.place.Tie as tie
+use Rattle.reduction.proofs.put_among.Statement.{statement}
+use Rattle.reduction.proofs.put_among.Tie as tie
 
 clear-above-requires : tie.Need-clear-above-requires
 clear-above-requires c κs =
@@ -68,16 +68,16 @@ returns c =
       r .raise .ensures
           ∙ ap (raised (a .n) (a .d * a .n) (k .clear-above .result * a .n)) (k .clear-above .ensures .1)
           ∙ ap (λ x. raised (a .n) (a .d * a .n) (x * a .n) (front ++ drop (x * a .n) (a .m .now))) (k .clear-above .ensures .0)
-          ∙ place-bytes (a .q) (a .n) (a .d) (a .m .now),
+          ∙ putAmong-bytes (a .q) (a .n) (a .d) (a .m .now),
       ap (take (a .d + 1)) (c .before .before .raise2 .ensures)
           ∙ raised-leads (a .d) (k .clear-above .result) (a .p) (a .pivots .now) (inside k) (b .pre .1 .0)
           ∙ ap₂ (λ x y. take x y ++ (a .p ∷ drop x y)) (k .clear-above .ensures .0) (b .pre .1 .1)
           ∙ ap (λ x. take (above (a .n) rows w) (leads (a .n) rows) ++ (x ∷ drop (above (a .n) rows w) (leads (a .n) rows))) (b .pre .1 .4)
-          ∙ sym (leads-placed (a .q) (laws (a .q) (b .pre .0 .0)) (a .n) w (b .pre .0 .3) (b .pre .0 .2)),
+          ∙ sym (leads-among (a .q) (laws (a .q) (b .pre .0 .0)) (a .n) w (b .pre .0 .3) (b .pre .0 .2)),
     )
 
-pub place-spec : {M : Type 1} → statement M
-place-spec =
+pub put-among-spec : {M : Type 1} → statement M
+put-among-spec =
     tie.close
     (tie.spec
     clear-above-requires

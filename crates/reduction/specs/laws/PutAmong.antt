@@ -1,11 +1,11 @@
 -- How a row is put among rows: those above it are cleared, those below it follow; no part of the meaning.
---   place-split     == the rows above, cleared, then w, then the other rows
---   place-length    == there is one row more
---   cleared-length  == the bytes of the rows above
---   place-within    == w goes among the rows' bytes
---   place-bytes     == the bytes that the three steps leave
+--   putAmong-split   == the rows above, cleared, then w, then the other rows
+--   putAmong-length  == there is one row more
+--   cleared-length   == the bytes of the rows above
+--   goes-within      == w goes among the rows' bytes
+--   putAmong-bytes   == the bytes that the three steps leave
 --   eliminate-length == elimination leaves n entries
---   above-le        == there are no more of them than rows
+--   above-le         == there are no more of them than rows
 -- Assumes nothing.
 use mathlib.Core.Path.{_≡_, refl, ap, ap₂, sym, _∙_}
 use mathlib.Core.Bool.{Bool, true, false}
@@ -21,7 +21,7 @@ use Rattle.basics.specs.laws.TableSize.{tabulate-length}
 use Rattle.linear.specs.Span.{rowsOf}
 use Rattle.linear.specs.laws.FlatMatrix.{rows-length}
 use Rattle.linear.specs.laws.FlatRows.{join-append, rows-drop, join-taken}
-use Rattle.linear.specs.Eliminate.{leadOf, eliminate, place, join}
+use Rattle.linear.specs.Eliminate.{leadOf, eliminate, putAmong, join}
 use Rattle.reduction.specs.laws.Steps.{part, above, cleared, raised}
 
 pub eliminate-length : (q n : ℕ) (r v : List ℕ) → length (eliminate q n r v) ≡ n
@@ -29,24 +29,24 @@ unfolding eliminate
 eliminate-length q n r v = tabulate-length _ 0 n
 
 module _ (q n : ℕ) (w : List ℕ) where
-  pub place-split : (rs : List (List ℕ)) → place q n rs w ≡ cleared q n rs w ++ (w ∷ drop (above n rs w) rs)
-  unfolding place cleared above
-  place-split [] = refl
-  place-split (r ∷ rs) = cases (ltb (leadOf n r) (leadOf n w)) (place-split rs)
+  pub putAmong-split : (rs : List (List ℕ)) → putAmong q n rs w ≡ cleared q n rs w ++ (w ∷ drop (above n rs w) rs)
+  unfolding putAmong cleared above
+  putAmong-split [] = refl
+  putAmong-split (r ∷ rs) = cases (ltb (leadOf n r) (leadOf n w)) (putAmong-split rs)
     where
-      cases : (b : Bool) → place q n rs w ≡ cleared q n rs w ++ (w ∷ drop (above n rs w) rs)
-          → pick b (eliminate q n w r ∷ place q n rs w) (w ∷ r ∷ rs)
+      cases : (b : Bool) → putAmong q n rs w ≡ cleared q n rs w ++ (w ∷ drop (above n rs w) rs)
+          → pick b (eliminate q n w r ∷ putAmong q n rs w) (w ∷ r ∷ rs)
           ≡ pick b (eliminate q n w r ∷ cleared q n rs w) [] ++ (w ∷ drop (pick b (suc (above n rs w)) 0) (r ∷ rs))
       cases true e = ap (λ (x : List (List ℕ)). eliminate q n w r ∷ x) e
       cases false e = refl
 
-  pub place-length : (rs : List (List ℕ)) → length (place q n rs w) ≡ suc (length rs)
-  unfolding place
-  place-length [] = refl
-  place-length (r ∷ rs) = cases (ltb (leadOf n r) (leadOf n w)) (place-length rs)
+  pub putAmong-length : (rs : List (List ℕ)) → length (putAmong q n rs w) ≡ suc (length rs)
+  unfolding putAmong
+  putAmong-length [] = refl
+  putAmong-length (r ∷ rs) = cases (ltb (leadOf n r) (leadOf n w)) (putAmong-length rs)
     where
-      cases : (b : Bool) → length (place q n rs w) ≡ suc (length rs)
-          → length (pick b (eliminate q n w r ∷ place q n rs w) (w ∷ r ∷ rs)) ≡ suc (suc (length rs))
+      cases : (b : Bool) → length (putAmong q n rs w) ≡ suc (length rs)
+          → length (pick b (eliminate q n w r ∷ putAmong q n rs w) (w ∷ r ∷ rs)) ≡ suc (suc (length rs))
       cases true e = ap suc e
       cases false e = refl
 
@@ -78,33 +78,33 @@ module _ (q n d : ℕ) (m : List ℕ) where
   rows = rowsOf n d m
 
   -- where w goes
-  abbrev place-of : ℕ
-  place-of = above n rows w * n
+  abbrev goes : ℕ
+  goes = above n rows w * n
 
-  pub place-within : place-of ≤ d * n
-  place-within = mul-le-mul-right n (omega (arith, above-le q n w rows, rows-length n d m))
+  pub goes-within : goes ≤ d * n
+  goes-within = mul-le-mul-right n (omega (arith, above-le q n w rows, rows-length n d m))
 
-  less : (d - above n rows w) * n ≡ d * n - place-of
+  less : (d - above n rows w) * n ≡ d * n - goes
   less = mul-comm (d - above n rows w) n ∙ mul-sub n d (above n rows w) ∙ ap₂ (λ x y. x - y) (mul-comm n d) (mul-comm n (above n rows w))
 
-  rest-bytes : join (drop (above n rows w) rows) ≡ take (d * n - place-of) (drop place-of m)
+  rest-bytes : join (drop (above n rows w) rows) ≡ take (d * n - goes) (drop goes m)
   rest-bytes =
-      ap join (rows-drop n m d (above n rows w)) ∙ join-taken n (drop place-of m) (d - above n rows w)
-      ∙ ap (λ x. take x (drop place-of m)) less
+      ap join (rows-drop n m d (above n rows w)) ∙ join-taken n (drop goes m) (d - above n rows w)
+      ∙ ap (λ x. take x (drop goes m)) less
 
-  placed-bytes : join (place q n rows w) ≡ join (cleared q n rows w) ++ (w ++ take (d * n - place-of) (drop place-of m))
+  joined-bytes : join (putAmong q n rows w) ≡ join (cleared q n rows w) ++ (w ++ take (d * n - goes) (drop goes m))
   unfolding join
-  placed-bytes =
-      ap join (place-split q n w rows) ∙ join-append (cleared q n rows w) (w ∷ drop (above n rows w) rows)
+  joined-bytes =
+      ap join (putAmong-split q n w rows) ∙ join-append (cleared q n rows w) (w ∷ drop (above n rows w) rows)
       ∙ ap (λ x. join (cleared q n rows w) ++ (w ++ x)) rest-bytes
 
-  pub place-bytes : raised n (d * n) place-of (join (cleared q n rows w) ++ drop place-of m) ≡ join (place q n rows w) ++ drop (d * n + n) m
-  place-bytes =
-      ap₂ (λ x y. x ++ (take n y ++ (part (d * n - place-of) place-of cut ++ drop (d * n + n) cut))) before (cut-after (d * n) place-within)
-      ∙ ap₂ (λ x y. front ++ (w ++ (take (d * n - place-of) x ++ y))) (cut-after place-of (omega arith))
-      (cut-after (d * n + n) (omega (arith, place-within)))
+  pub putAmong-bytes : raised n (d * n) goes (join (cleared q n rows w) ++ drop goes m) ≡ join (putAmong q n rows w) ++ drop (d * n + n) m
+  putAmong-bytes =
+      ap₂ (λ x y. x ++ (take n y ++ (part (d * n - goes) goes cut ++ drop (d * n + n) cut))) before (cut-after (d * n) goes-within)
+      ∙ ap₂ (λ x y. front ++ (w ++ (take (d * n - goes) x ++ y))) (cut-after goes (omega arith))
+      (cut-after (d * n + n) (omega (arith, goes-within)))
       ∙ sym
-      (ap (λ x. x ++ drop (d * n + n) m) placed-bytes
+      (ap (λ x. x ++ drop (d * n + n) m) joined-bytes
       ∙ append-assoc front (w ++ middle) (drop (d * n + n) m)
       ∙ ap (λ x. front ++ x) (append-assoc w middle (drop (d * n + n) m)))
     where
@@ -112,18 +112,18 @@ module _ (q n d : ℕ) (m : List ℕ) where
       front = join (cleared q n rows w)
 
       middle : List ℕ
-      middle = take (d * n - place-of) (drop place-of m)
+      middle = take (d * n - goes) (drop goes m)
 
       cut : List ℕ
-      cut = front ++ drop place-of m
+      cut = front ++ drop goes m
 
-      before : take place-of cut ≡ front
-      before = take-at front (drop place-of m) place-of (cleared-length q n w rows)
+      before : take goes cut ≡ front
+      before = take-at front (drop goes m) goes (cleared-length q n w rows)
 
       -- from there on the bytes are m's
-      cut-after : (k : ℕ) → place-of ≤ k → drop k cut ≡ drop k m
+      cut-after : (k : ℕ) → goes ≤ k → drop k cut ≡ drop k m
       cut-after k l =
-          let e : length front + (k - place-of) ≡ k = omega (arith, cleared-length q n w rows) in
-          let e′ : place-of + (k - place-of) ≡ k = omega arith in
-          ap (λ x. drop x cut) (sym e) ∙ drop-append-add front (drop place-of m) (k - place-of)
-          ∙ drop-drop (k - place-of) place-of m ∙ ap (λ x. drop x m) e′
+          let e : length front + (k - goes) ≡ k = omega (arith, cleared-length q n w rows) in
+          let e′ : goes + (k - goes) ≡ k = omega arith in
+          ap (λ x. drop x cut) (sym e) ∙ drop-append-add front (drop goes m) (k - goes)
+          ∙ drop-drop (k - goes) goes m ∙ ap (λ x. drop x m) e′
