@@ -8,7 +8,8 @@ use Rattle.field.specs.laws.Decide.{laws}
 use Rattle.linear.specs.Span.{rowsOf}
 use Rattle.linear.specs.Eliminate.{join}
 use Rattle.linear.specs.laws.FlatMatrix.{rows-length}
-use Rattle.reduction.specs.laws.Steps.{part, leads, above, cleared, raised}
+use Rattle.rows.specs.laws.Steps.{part, raised}
+use Rattle.reduction.specs.laws.Steps.{leads, above, cleared}
 use Rattle.reduction.specs.laws.PutAmong.{above-le, putAmong-bytes}
 use Rattle.reduction.specs.laws.Leads.{leads-among, raised-leads}
 use borrow.Author.Needs.{needs}

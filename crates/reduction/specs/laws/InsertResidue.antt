@@ -27,7 +27,7 @@ use Rattle.linear.specs.laws.RowLead.{leadOf-le}
 use Rattle.reduction.specs.Padded.{padded}
 use Rattle.reduction.specs.laws.Parts.{part-put, rows-put, after-put, put-put}
 use Rattle.reduction.specs.laws.PutAmong.{putAmong-length}
-use Rattle.reduction.specs.laws.Steps.{part, put}
+use Rattle.rows.specs.laws.Steps.{part, put}
 
 zero-row : (q n : ℕ) (v : List ℕ) → Row q n v → leadOf n v ≡ n → v ≡ replicate n 0
 unfolding leadOf

@@ -23,7 +23,8 @@ use Rattle.linear.specs.laws.ReducedOf.{no-rows}
 use Rattle.linear.specs.laws.ReducedRows.{rows-sized}
 use Rattle.reduction.specs.Padded.{padded}
 use Rattle.reduction.specs.laws.Insert.{full-same}
-use Rattle.reduction.specs.laws.Steps.{part, leads}
+use Rattle.rows.specs.laws.Steps.{part}
+use Rattle.reduction.specs.laws.Steps.{leads}
 
 pub record Holds (q n : ℕ) (rs : List (List ℕ)) (d : ℕ) (m pivots : List ℕ) : Type 0 where
   pub kept : Kept q n rs

@@ -29,7 +29,8 @@ use Rattle.linear.specs.laws.Entries.{at, zero-at, at-zero}
 use Rattle.linear.specs.laws.Lead.{lead-unique}
 use Rattle.linear.specs.laws.Residual.{takenOff-kept}
 use Rattle.linear.specs.laws.RowLead.{leadOf-le, at-before, at-lead-nonzero}
-use Rattle.reduction.specs.laws.Steps.{part, leads, above, raised}
+use Rattle.rows.specs.laws.Steps.{part, raised}
+use Rattle.reduction.specs.laws.Steps.{leads, above}
 
 leads-append : (n : ℕ) (rs : List (List ℕ)) (r : List ℕ) → leads n (rs ++ (r ∷ [])) ≡ leads n rs ++ (leadOf n r ∷ [])
 unfolding leads

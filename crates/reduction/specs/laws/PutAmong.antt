@@ -22,7 +22,8 @@ use Rattle.linear.specs.Span.{rowsOf}
 use Rattle.linear.specs.laws.FlatMatrix.{rows-length}
 use Rattle.linear.specs.laws.FlatRows.{join-append, rows-drop, join-taken}
 use Rattle.linear.specs.Eliminate.{leadOf, eliminate, putAmong, join}
-use Rattle.reduction.specs.laws.Steps.{part, above, cleared, raised}
+use Rattle.rows.specs.laws.Steps.{part, raised}
+use Rattle.reduction.specs.laws.Steps.{above, cleared}
 
 pub eliminate-length : (q n : ℕ) (r v : List ℕ) → length (eliminate q n r v) ≡ n
 unfolding eliminate

@@ -1,4 +1,4 @@
--- `reduction::add_scaled` meets its contract: the first j entries are the sum's, the others as they were.
+-- `rows::add_scaled` meets its contract: the first j entries are the sum's, the others as they were.
 use mathlib.Core.Path.{_≡_, ap, ap₂, _∙_}
 use Prim.Native.Nat.{_+_, _-_, _≤_}
 use native.Mathlib.Numerals.{add-one}
@@ -7,11 +7,11 @@ use lib.ListN.{length, getD, set, length-set}
 use Rattle.field.specs.laws.Decide.{laws}
 use Rattle.field.specs.Field.{add, multiply}
 use Rattle.linear.specs.laws.Entries.{row-below}
-use Rattle.reduction.specs.laws.Steps.{part, plusMultiple}
-use Rattle.reduction.specs.laws.AddScaled.{entered, entered-none, entered-to, entered-apart, entered-more, entered-all, sum-length}
-use Rattle.reduction.specs.laws.AddScaled.{sum-at}
-use Rattle.reduction.proofs.add_scaled.Statement.{statement}
-use Rattle.reduction.proofs.add_scaled.Tie as tie
+use Rattle.rows.specs.laws.Steps.{part, plusMultiple}
+use Rattle.rows.specs.laws.AddScaled.{entered, entered-none, entered-to, entered-apart, entered-more, entered-all, sum-length}
+use Rattle.rows.specs.laws.AddScaled.{sum-at}
+use Rattle.rows.proofs.add_scaled.Statement.{statement}
+use Rattle.rows.proofs.add_scaled.Tie as tie
 
 abbrev Inv-loop : tie.InvT-loop
 Inv-loop q n c m₀ from to j₀ m j =

@@ -1,4 +1,4 @@
--- `reduction::enter` meets its contract: the first j entries of the row, less the multiple, are written.
+-- `rows::enter` meets its contract: the first j entries of the row, less the multiple, are written.
 use mathlib.Core.Path.{_≡_, ap, ap₂, sym, _∙_}
 use mathlib.Core.Logic.{inl}
 use Prim.Native.Nat.{_+_, _-_, _≤_}
@@ -11,10 +11,10 @@ use Rattle.field.specs.Field.{add, multiply, negate}
 use Rattle.field.specs.laws.InField.{in-field}
 use Rattle.linear.specs.Eliminate.{leadOf, eliminate}
 use Rattle.linear.specs.laws.Entries.{row-below}
-use Rattle.reduction.specs.laws.AddScaled.{entered, entered-none, entered-apart, entered-more, entered-all, sum-length, sum-at}
-use Rattle.reduction.specs.laws.Steps.{part, put, plusMultiple}
-use Rattle.reduction.proofs.enter.Statement.{statement}
-use Rattle.reduction.proofs.enter.Tie as tie
+use Rattle.rows.specs.laws.AddScaled.{entered, entered-none, entered-apart, entered-more, entered-all, sum-length, sum-at}
+use Rattle.rows.specs.laws.Steps.{part, put, plusMultiple}
+use Rattle.rows.proofs.enter.Statement.{statement}
+use Rattle.rows.proofs.enter.Tie as tie
 
 abbrev Inv-loop : tie.InvT-loop
 Inv-loop q n p row m₀ to c j₀ m j =

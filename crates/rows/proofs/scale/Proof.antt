@@ -1,4 +1,4 @@
--- `reduction::scale` meets its contract: the first j entries are the product's, the others as they were.
+-- `rows::scale` meets its contract: the first j entries are the product's, the others as they were.
 use mathlib.Core.Path.{_≡_, ap, ap₂, _∙_}
 use mathlib.Core.List.{_++_}
 use Prim.Native.Nat.{_-_, _≤_, _<_}
@@ -9,10 +9,10 @@ use Rattle.basics.specs.laws.TableWrite.{write-none, write-read, write-more, wr
 use Rattle.field.specs.laws.Decide.{laws}
 use Rattle.field.specs.Field.{add, multiply}
 use Rattle.linear.specs.laws.Entries.{row-below}
-use Rattle.reduction.specs.laws.Monic.{only-multiple}
-use Rattle.reduction.specs.laws.Steps.{multiple, multipleAt}
-use Rattle.reduction.proofs.scale.Statement.{statement}
-use Rattle.reduction.proofs.scale.Tie as tie
+use Rattle.rows.specs.laws.Monic.{only-multiple}
+use Rattle.rows.specs.laws.Steps.{multiple, multipleAt}
+use Rattle.rows.proofs.scale.Statement.{statement}
+use Rattle.rows.proofs.scale.Tie as tie
 
 abbrev Inv-loop : tie.InvT-loop
 Inv-loop q n c v₀ j₀ v j = (j ≤ n) × (length v ≡ n) × (v ≡ tabulate (multipleAt q c v₀) 0 j ++ drop j v₀)

@@ -12,8 +12,8 @@ use lib.ListN.{length, getD, take, drop, set}
 use lib.Seq.{length-take-le}
 use Rattle.basics.specs.laws.Table.{table-at}
 use Rattle.basics.specs.laws.TableSize.{tabulate-length}
-use Rattle.reduction.specs.laws.Steps.{part, put, Apart, plusMultiple, plusMultipleAt}
-use Rattle.reduction.specs.laws.Write.{over, part-length, put-same, put-apart, over-length, over-all, over-read, over-more}
+use Rattle.rows.specs.laws.Steps.{part, put, Apart, plusMultiple, plusMultipleAt}
+use Rattle.rows.specs.laws.Write.{over, part-length, put-same, put-apart, over-length, over-all, over-read, over-more}
 
 abbrev pub entered : ℕ → ℕ → List ℕ → List ℕ → ℕ → List ℕ
 entered n to w m j = put n to (over j w (part n to m)) m

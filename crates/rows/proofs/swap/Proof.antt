@@ -1,12 +1,12 @@
--- `reduction::swap` meets its contract: the first j bytes of the two rows are exchanged.
+-- `rows::swap` meets its contract: the first j bytes of the two rows are exchanged.
 use mathlib.Core.Path.{_≡_, ap, _∙_}
 use Prim.Native.Nat.{_+_, _-_, _≤_}
 use native.Mathlib.Numerals.{add-one}
 use native.Mathlib.Omega.{arith}
 use lib.ListN.{length, getD, set, length-set}
-use Rattle.reduction.specs.laws.Raise.{exchanged, exchanged-none, exchanged-more, exchanged-all}
-use Rattle.reduction.proofs.swap.Statement.{statement}
-use Rattle.reduction.proofs.swap.Tie as tie
+use Rattle.rows.specs.laws.Raise.{exchanged, exchanged-none, exchanged-more, exchanged-all}
+use Rattle.rows.proofs.swap.Statement.{statement}
+use Rattle.rows.proofs.swap.Tie as tie
 
 abbrev Inv-loop : tie.InvT-loop
 Inv-loop n m₀ at j₀ m j = (j ≤ n) × (length m ≡ length m₀) × (m ≡ exchanged n at m₀ j j)

@@ -1,13 +1,13 @@
--- `reduction::raise` meets its contract: row d stands at row i.
+-- `rows::raise` meets its contract: row d stands at row i.
 use mathlib.Core.Path.{_≡_, ap, _∙_}
 use Prim.Native.Nat.{suc, _*_, _-_, _≤_}
 use native.Mathlib.Omega.{arith}
 use lib.ListN.{length}
 use Rattle.basics.specs.laws.Flat.{row-fits}
-use Rattle.reduction.specs.laws.Steps.{raised}
-use Rattle.reduction.specs.laws.Raise.{raised-none, raised-more}
-use Rattle.reduction.proofs.raise.Statement.{statement}
-use Rattle.reduction.proofs.raise.Tie as tie
+use Rattle.rows.specs.laws.Steps.{raised}
+use Rattle.rows.specs.laws.Raise.{raised-none, raised-more}
+use Rattle.rows.proofs.raise.Statement.{statement}
+use Rattle.rows.proofs.raise.Tie as tie
 
 abbrev Inv-loop : tie.InvT-loop
 Inv-loop n d at m₀ i₀ m i = (at ≤ i) × (i ≤ d) × (length m ≡ length m₀) × (m ≡ raised n (d * n) (i * n) m₀)

@@ -1,4 +1,4 @@
--- `reduction::eliminate` meets its contract: it adds the multiple, and leaves out a multiple that is zero.
+-- `rows::eliminate` meets its contract: it adds the multiple, and leaves out a multiple that is zero.
 use mathlib.Core.Path.{_≡_, ap, sym, _∙_}
 use Prim.Native.Nat.{_+_, _<_}
 use native.Mathlib.Omega.{arith}
@@ -9,11 +9,11 @@ use Rattle.field.specs.laws.InField.{in-field}
 use Rattle.linear.specs.Eliminate.{leadOf, eliminate}
 use Rattle.linear.specs.laws.Entries.{row-below}
 use Rattle.linear.specs.laws.NoChange.{eliminate-nothing}
-use Rattle.reduction.specs.laws.Steps.{part, put, plusMultiple}
-use Rattle.reduction.specs.laws.Write.{part-read, put-same}
+use Rattle.rows.specs.laws.Steps.{part, put, plusMultiple}
+use Rattle.rows.specs.laws.Write.{part-read, put-same}
 use borrow.Author.Needs.{needs}
-use Rattle.reduction.proofs.eliminate.Statement.{statement}
-use Rattle.reduction.proofs.eliminate.Tie as tie
+use Rattle.rows.proofs.eliminate.Statement.{statement}
+use Rattle.rows.proofs.eliminate.Tie as tie
 
 -- the entry that is read is the row's entry at the lead
 entry : (c : tie.Start) →

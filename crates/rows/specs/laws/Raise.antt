@@ -11,8 +11,8 @@ use native.Mathlib.Nat.{mul-le-mul-right}
 use native.Mathlib.Omega.{arith}
 use lib.ListN.{length, getD, take, drop, set, length-append}
 use lib.Seq.{length-take-le, take-at, drop-at, drop-drop, take-add}
-use Rattle.reduction.specs.laws.Steps.{part, swapped, raised}
-use Rattle.reduction.specs.laws.Write.{over, part-length, part-rest, put-same, over-length, over-all, over-read, over-more}
+use Rattle.rows.specs.laws.Steps.{part, swapped, raised}
+use Rattle.rows.specs.laws.Write.{over, part-length, part-rest, put-same, over-length, over-all, over-read, over-more}
 
 abbrev pub exchanged : ℕ → ℕ → List ℕ → ℕ → ℕ → List ℕ
 exchanged n at m j k =

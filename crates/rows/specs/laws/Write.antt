@@ -15,7 +15,7 @@ use Prim.Native.Nat.{ℕ, suc, _+_, _-_, _<_, _≤_}
 use native.Mathlib.Omega.{arith}
 use lib.ListN.{length, getD, take, drop, set, length-append, length-drop, take-append-drop, drop-of-length-le, List·getD-append}
 use lib.Seq.{length-take-le, take-all, take-suc, drop-cons, drop-drop, getD-take, getD-drop, getD-append-add, getD-at, set-at}
-use Rattle.reduction.specs.laws.Steps.{part, put, Apart}
+use Rattle.rows.specs.laws.Steps.{part, put, Apart}
 
 abbrev pub over : ℕ → List ℕ → List ℕ → List ℕ
 over j x y = take j x ++ drop j y
