@@ -49,7 +49,7 @@ returns c =
     let a = b .args in
     holds-told (l .loop .inv .3)
     (insertRows-full (a .q) (laws (a .q) (b .pre .0 .0)) (a .n) (rowsOf (a .n) (a .d) (a .m .now)) (a .input .now) (a .count) (valid b)
-    (l .loop .i) (l .loop .held) (l .loop .inv .3) (c .if1 .taken) (l .loop .inv .0))
+    (l .loop .i) (l .loop .held) (l .loop .inv .3) (omega arith) (l .loop .inv .0))
 
 -- the row ends within the input
 fits : (c : tie.Else1 Inv-loop μ-loop) →
@@ -89,23 +89,6 @@ part-insert-start c = omega arith
 part-insert-end : tie.Need-part-insert-end Inv-loop μ-loop
 part-insert-end c = omega (arith, fits c)
 
-insert-requires : tie.Need-insert-requires Inv-loop μ-loop
-insert-requires c κs =
-    let e = c .before .before .before in
-    let l = e .before .before in
-    let b = l .before .before .before .before in
-    let a = b .args in
-    let asks = holds-asks (a .q) (laws (a .q) (b .pre .0 .0)) (a .n) (l .loop .inv .3) in (
-      (b .pre .0 .0, asks .0, asks .1, row e),
-      (omega (arith, l .loop .inv .2, b .pre .1 .0 .0), asks .2, b .pre .1 .0 .2),
-    )
-
-add-i : tie.Need-add-i Inv-loop μ-loop
-add-i c = omega arith
-
-loop-less : tie.Need-loop-less Inv-loop μ-loop
-loop-less c = omega arith
-
 loop-again : tie.Need-loop-again Inv-loop μ-loop
 loop-again c =
     let r = c .before .before .before .before in
@@ -123,6 +106,23 @@ loop-again c =
           (l .loop .inv .3) _ (row e) (ap (λ x. take x (drop start (a .input .now))) size) (r .insert .result) _ _
           (r .insert .ensures .0) (r .insert .ensures .1 .0) (r .insert .ensures .1 .1)),
     )
+
+insert-requires : tie.Need-insert-requires Inv-loop μ-loop
+insert-requires c κs =
+    let e = c .before .before .before in
+    let l = e .before .before in
+    let b = l .before .before .before .before in
+    let a = b .args in
+    let asks = holds-asks (a .q) (laws (a .q) (b .pre .0 .0)) (a .n) (l .loop .inv .3) in (
+      (b .pre .0 .0, asks .0, asks .1, row e),
+      (omega (arith, l .loop .inv .2, b .pre .1 .0 .0), asks .2, b .pre .1 .0 .2),
+    )
+
+add-i : tie.Need-add-i Inv-loop μ-loop
+add-i c = omega arith
+
+loop-less : tie.Need-loop-less Inv-loop μ-loop
+loop-less c = omega arith
 
 same-length-3 : tie.Need-same-length-3 Inv-loop μ-loop
 same-length-3 c = c .before .loop .inv .1
