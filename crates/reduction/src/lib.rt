@@ -108,8 +108,8 @@ pub fn insert(q: u64, n: usize, d: usize, row: &[u8], m: &mut [u8], pivots: &mut
     insert_residue(q, n, d, row, m, pivots)
 }
 
-// Takes the `count` rows of `input` into the d reduced rows of m, which has room for n rows and holds zeros after them, and answers how many
-// there are now; it ends at n. `pivots` holds their leads.
+// Takes the `count` rows of `input` into the d reduced rows of m, which has room for n rows and holds zeros after them, and answers how
+// many there are now; it ends at n. `pivots` holds their leads.
 pub fn insert_rows(
     q: u64,
     n: usize,

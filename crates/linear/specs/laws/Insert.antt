@@ -30,7 +30,8 @@ use Rattle.linear.specs.laws.FlatMatrix.{rows-join}
 use Rattle.linear.specs.laws.ReducedRows.{rows-sized, reduced-echelon, echelon-reduced}
 use Rattle.linear.specs.laws.RowLead.{at-before, leadOf-le, lead-none, none-lead}
 use Rattle.linear.specs.laws.Elimination.{monic-row}
-use Rattle.linear.specs.laws.InsertSteps.{residue-row, residue-residual, putAmong-rows, putAmong-among, insertRow-zero, insertRow-other}
+use Rattle.linear.specs.laws.InsertSteps.{residue-row, residue-residual, putAmong-rows, putAmong-among}
+use Rattle.linear.specs.laws.InsertSteps.{insertRow-zero, insertRow-other}
 use Rattle.linear.specs.laws.InsertSteps.{monic-one, monic-before, monic-lead, monic-spanned, monic-spans}
 
 module _ (q : ℕ) (laws : Laws q) (n : ℕ) (rs : List (List ℕ)) (h : All (Row q n) rs) (R : Reduced q n (length rs) (join rs)) where
@@ -93,7 +94,8 @@ module _ (q : ℕ) (laws : Laws q) (n : ℕ) (rs : List (List ℕ)) (h : All (Ro
               (all-map (λ s z. monic-before q laws n w hw lt (leadOf n s) z) cleared) among;
           spanned =
               among-spanned _ _ _ u
-              (monic-spanned q laws n w hw lt (spanned-residue (v ∷ rs) below .0 (spanned-top (scalars q laws) (at q laws) v rs))) below among;
+              (monic-spanned q laws n w hw lt (spanned-residue (v ∷ rs) below .0 (spanned-top (scalars q laws) (at q laws) v rs)))
+              below among;
           spans = more (spanned-residue (putAmong q n rs u) old .1 (monic-spans q laws n w hw lt new)) old;
         }
       where

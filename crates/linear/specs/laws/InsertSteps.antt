@@ -78,7 +78,8 @@ module _ (q : ℕ) (laws : Laws q) (n : ℕ) where
         spanned-scale (scalars q laws) (at q laws) (at q laws (monic q n v)) (inverse (at q laws v (leadOf n v))) s (at-monic q laws n v hv)
 
     pub monic-spans : {rows : List (List ℕ)} → Spans q laws rows (monic q n v) → Spans q laws rows v
-    monic-spans s = spanned-scale (scalars q laws) (at q laws) (at q laws v) d s (λ j. sym (ap (λ x. d ⊗ x) (at-monic q laws n v hv j) ∙ undone j))
+    monic-spans s =
+        spanned-scale (scalars q laws) (at q laws) (at q laws v) d s (λ j. sym (ap (λ x. d ⊗ x) (at-monic q laws n v hv j) ∙ undone j))
       where
         d : Fin q
         d = at q laws v (leadOf n v)
@@ -109,7 +110,8 @@ module _ (q : ℕ) (laws : Laws q) (n : ℕ) where
       where
         kept : (j : ℕ) → j < leadOf n w → at q laws (eliminate q n w r) j ≡ at q laws r j
         kept j b =
-            takenOff-kept (scalars q laws) (at q laws) (at q laws r (leadOf n w)) (eliminate-takes q laws n w r hw h) j (at-before q laws n w j b)
+            takenOff-kept (scalars q laws) (at q laws) (at q laws r (leadOf n w)) (eliminate-takes q laws n w r hw h) j
+            (at-before q laws n w j b)
 
         cases : Among (scalars q laws) (at q laws) (leadOf n) w rows (putAmong q n rows w)
             → (leadOf n w ≤ leadOf n r) ⊎ (leadOf n r < leadOf n w)

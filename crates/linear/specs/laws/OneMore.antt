@@ -39,7 +39,8 @@ module _ (q : ℕ) (laws : Laws q) (n : ℕ) (rows : List (List ℕ)) (h : All (
   unfolding dimension SameSpan
   dimension-raised v hv outside =
       ap length (reducedRows-more q n rows v)
-      ∙ insert-raised q laws n (reducedRows q n rows) (kept .rows) (kept .reduced) v hv (λ s. outside (reducedRows-span q laws n rows h v .0 s))
+      ∙ insert-raised q laws n (reducedRows q n rows) (kept .rows) (kept .reduced) v hv
+      (λ s. outside (reducedRows-span q laws n rows h v .0 s))
 
   pub span-decide : (v : List ℕ) → Row q n v → Dec (InSpan q n rows v)
   unfolding SameSpan

@@ -47,7 +47,8 @@ module _ (q : ℕ) (laws : Laws q) (n : ℕ) (rows : List (List ℕ)) (h : All (
   unfolding reducedRows
   reducedRows-span =
       span-same q laws n (reducedRows q n rows) rows (reducedRows-kept .rows) h
-      (insertRows-spanned q laws n rows h [] (no-rows q laws n) none h (span-each q laws n rows h)) (insertRows-new q laws n [] (no-rows q laws n) h)
+      (insertRows-spanned q laws n rows h [] (no-rows q laws n) none h (span-each q laws n rows h))
+      (insertRows-new q laws n [] (no-rows q laws n) h)
 
   pub reducedOf-reduced : Reduced q n (dimension q n rows) (reducedOf q n rows)
   unfolding dimension reducedOf

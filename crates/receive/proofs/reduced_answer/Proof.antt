@@ -60,49 +60,59 @@ insert-rows-requires c κs =
 
 -- what the reduction leaves: its rows fit, and stand first in the array
 module _ (c : tie.After-insert-rows) where
-  told : let a = c .before .before .before .before .args in
-      let rows = rowsOf (a .n) (a .row-count) (a .rows .now) in
-      (c .insert-rows .result ≡ dimension (a .q) (a .n) rows) × (
-      (c .insert-rows .last .1 .1 .1 .1 .1 .0 ≡ padded (a .n * a .n) (reducedOf (a .q) (a .n) rows))
-      × (take (c .insert-rows .result) (c .insert-rows .last .1 .1 .1 .1 .1 .1 .0) ≡ leads (a .n) (reducedRows (a .q) (a .n) rows))
-      )
+  abbrev start : tie.Start
+  start = c .before .before .before .before
+
+  abbrev input : List (List ℕ)
+  input = let a = start .args in rowsOf (a .n) (a .row-count) (a .rows .now)
+
+  -- the bytes and the pivots that were lent
+  abbrev filled : List ℕ
+  filled = c .insert-rows .last .1 .1 .1 .1 .1 .0
+
+  abbrev pivots : List ℕ
+  pivots = c .insert-rows .last .1 .1 .1 .1 .1 .1 .0
+
+  told : let a = start .args in
+      (c .insert-rows .result ≡ dimension (a .q) (a .n) input)
+      × ((filled ≡ padded (a .n * a .n) (reducedOf (a .q) (a .n) input))
+      × (take (c .insert-rows .result) pivots ≡ leads (a .n) (reducedRows (a .q) (a .n) input)))
   unfolding dimension reducedOf reducedRows rowsOf
   told = c .insert-rows .ensures
 
-  rows-fit : let s = c .before .before .before .before in c .insert-rows .result * s .args .n ≤ 256
+  rows-fit : c .insert-rows .result * start .args .n ≤ 256
   rows-fit =
-      let s = c .before .before .before .before in
-      received-fits (s .args .q) (s .args .n) (s .args .row-count) (s .args .rows .now) (s .pre .0 .settings .size) (s .pre .2) (s .pre .3)
-      (c .insert-rows .result) (told .0) (s .pre .0 .settings .narrow)
+      let a = start .args in
+      received-fits (a .q) (a .n) (a .row-count) (a .rows .now) (start .pre .0 .settings .size) (start .pre .2) (start .pre .3)
+      (c .insert-rows .result) (told .0) (start .pre .0 .settings .narrow)
 
   -- the array after the reduction
   array : List ℕ
-  array = let n = c .before .before .before .before .args .n in c .insert-rows .last .1 .1 .1 .1 .1 .0 ++ drop (n * n) (zeros 256)
+  array = let n = start .args .n in filled ++ drop (n * n) (zeros 256)
 
-  array-front : let s = c .before .before .before .before in
-      take (c .insert-rows .result * s .args .n) array ≡ reducedOf (s .args .q) (s .args .n) (rowsOf (s .args .n) (s .args .row-count) (s .args .rows .now))
+  array-front : take (c .insert-rows .result * start .args .n) array ≡ reducedOf (start .args .q) (start .args .n) input
   unfolding array
   array-front =
-      let s = c .before .before .before .before in
-      received-front (s .args .q) (s .args .n) (s .args .row-count) (s .args .rows .now) (s .pre .0 .settings .size) (s .pre .2) (s .pre .3)
-      (c .insert-rows .result) (c .insert-rows .last .1 .1 .1 .1 .1 .0) (drop (s .args .n * s .args .n) (zeros 256)) (told .0) (told .1 .0)
+      let a = start .args in
+      received-front (a .q) (a .n) (a .row-count) (a .rows .now) (start .pre .0 .settings .size) (start .pre .2) (start .pre .3)
+      (c .insert-rows .result) filled (drop (a .n * a .n) (zeros 256)) (told .0) (told .1 .0)
 
   array-length : length array ≡ 256
   unfolding array zeros
   array-length =
-      let s = c .before .before .before .before in
-      let h : s .args .n * s .args .n ≤ 256 = square (s .pre .0 .settings .narrow) in
-      let l : length (c .insert-rows .last .1 .1 .1 .1 .1 .0) ≡ s .args .n * s .args .n = c .insert-rows .kept .1 .1 .1 .1 .1 .0 ∙ part 256 h in
-      length-append (c .insert-rows .last .1 .1 .1 .1 .1 .0) (drop (s .args .n * s .args .n) (zeros 256))
-      ∙ omega (arith, l, h, length-drop (s .args .n * s .args .n) (zeros 256), length-replicate {A = ℕ} 256 0)
+      let square-of : ℕ = start .args .n * start .args .n in
+      let h : square-of ≤ 256 = square (start .pre .0 .settings .narrow) in
+      let l : length filled ≡ square-of = c .insert-rows .kept .1 .1 .1 .1 .1 .0 ∙ part 256 h in
+      length-append filled (drop square-of (zeros 256))
+      ∙ omega (arith, l, h, length-drop square-of (zeros 256), length-replicate {A = ℕ} 256 0)
 
-  front-reduced : let s = c .before .before .before .before in
-      Reduced (s .args .q) (s .args .n) (c .insert-rows .result) (take (c .insert-rows .result * s .args .n) array)
+  front-reduced : let a = start .args in
+      Reduced (a .q) (a .n) (c .insert-rows .result) (take (c .insert-rows .result * a .n) array)
   front-reduced =
-      let s = c .before .before .before .before in
-      let r = received-reduced (s .args .q) (s .args .n) (s .args .row-count) (s .args .rows .now) (s .pre .0 .settings .size) (s .pre .2) (s .pre .3) in
-      subst (Reduced (s .args .q) (s .args .n) (c .insert-rows .result)) (sym array-front)
-      (subst (λ d. Reduced (s .args .q) (s .args .n) d (reducedOf (s .args .q) (s .args .n) (rowsOf (s .args .n) (s .args .row-count) (s .args .rows .now)))) (sym (told .0)) r)
+      let a = start .args in
+      subst (Reduced (a .q) (a .n) (c .insert-rows .result)) (sym array-front)
+      (subst (λ d. Reduced (a .q) (a .n) d (reducedOf (a .q) (a .n) input)) (sym (told .0))
+      (received-reduced (a .q) (a .n) (a .row-count) (a .rows .now) (start .pre .0 .settings .size) (start .pre .2) (start .pre .3)))
 
 mul-size : tie.Need-mul-size
 mul-size c = omega (arith, rows-fit (c .before .before))
@@ -125,13 +135,15 @@ vector-of-requires c κs =
     let s = r .before .before .before .before in
     let a = s .args in
     let h = s .pre .0 .settings .narrow in
-    let most = received-most (a .q) (a .n) (a .row-count) (a .rows .now) (s .pre .0 .settings .size) (s .pre .2) (s .pre .3) (r .insert-rows .result) (told r .0) in (
+    let most =
+    received-most (a .q) (a .n) (a .row-count) (a .rows .now) (s .pre .0 .settings .size) (s .pre .2) (s .pre .3) (r .insert-rows .result)
+    (told r .0) in (
       h,
       (_, front-reduced r),
       omega (arith, h, most, r .insert-rows .kept .1 .1 .1 .1 .1 .1 .0),
       λ i l.
-          received-pivots (a .q) (a .n) (a .row-count) (a .rows .now) (s .pre .0 .settings .size) (s .pre .2) (s .pre .3) (r .insert-rows .result) _
-          (told r .0) (told r .1 .1) i l
+          received-pivots (a .q) (a .n) (a .row-count) (a .rows .now) (s .pre .0 .settings .size) (s .pre .2) (s .pre .3)
+          (r .insert-rows .result) _ (told r .0) (told r .1 .1) i l
           ∙ ap (λ m. pivot (a .n) m i) (sym (array-front r)),
     )
 

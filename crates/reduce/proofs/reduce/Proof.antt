@@ -16,7 +16,8 @@ use Rattle.reduce.proofs.reduce.Statement.{statement}
 use Rattle.reduce.proofs.reduce.Tie as tie
 
 unrefused : (c : tie.Else1) →
-    let a = c .before .before .before .before .args in reduceRefusal (a .q) (a .n) (a .row-count) (a .rows .now) (length (a .output .now)) ≡ 0
+    let a = c .before .before .before .before .args in
+    reduceRefusal (a .q) (a .n) (a .row-count) (a .rows .now) (length (a .output .now)) ≡ 0
 unrefused c = sym (c .before .reduce-refusal .ensures) ∙ c .if1 .left
 
 accepted : (c : tie.Else1) →

@@ -44,7 +44,8 @@ returns-3 c =
 returns-4 : tie.Need-returns-4
 returns-4 c =
     let b = c .before .before in (
-      sym (take-unrefused _ _ (formed (b .before .before)) (b .if2 .left) (sym (c .before .entries-below .ensures) ∙ not-false _ (c .if3 .left))),
+      sym (take-unrefused _ _ (formed (b .before .before)) (b .if2 .left)
+          (sym (c .before .entries-below .ensures) ∙ not-false _ (c .if3 .left))),
       b .before .before .before .before .well-formed .ensures .1,
     )
 
