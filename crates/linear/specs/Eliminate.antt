@@ -4,7 +4,7 @@
 --   eliminate q n r v   == v less the multiple of r that makes v zero at r's lead
 --   residue q n rs v    == v after eliminating with each row of rs
 --   monic q n v         == v scaled so that its first nonzero entry is 1
---   place q n rs w      == w put among the rows rs in the order of leads, w's lead cleared in the rows above
+--   putAmong q n rs w   == w put among the rows rs in the order of leads, w's lead cleared in the rows above
 --   insertRow q n rs v  == the reduced rows rs with v taken in
 --   reducedRows q n rows, reducedOf q n rows == the rows of the reduced matrix, and its bytes
 --   dimension q n rows  == its number of rows
@@ -31,13 +31,13 @@ residue q n (r ∷ rs) v = residue q n rs (eliminate q n r v)
 unfoldable pub monic : ℕ → ℕ → List ℕ → List ℕ
 monic q n v = tabulate (λ j. multiply q (invert q (getD v (leadOf n v) 0)) (getD v j 0)) 0 n
 
-unfoldable pub place : ℕ → ℕ → List (List ℕ) → List ℕ → List (List ℕ)
-place q n [] w = w ∷ []
-place q n (r ∷ rs) w = pick (ltb (leadOf n r) (leadOf n w)) (eliminate q n w r ∷ place q n rs w) (w ∷ r ∷ rs)
+unfoldable pub putAmong : ℕ → ℕ → List (List ℕ) → List ℕ → List (List ℕ)
+putAmong q n [] w = w ∷ []
+putAmong q n (r ∷ rs) w = pick (ltb (leadOf n r) (leadOf n w)) (eliminate q n w r ∷ putAmong q n rs w) (w ∷ r ∷ rs)
 
 -- w is a residue: where it is zero, the row was in the span already
 unfoldable pub insertResidue : ℕ → ℕ → List (List ℕ) → List ℕ → List (List ℕ)
-insertResidue q n rs w = pick (eqb (leadOf n w) n) rs (place q n rs (monic q n w))
+insertResidue q n rs w = pick (eqb (leadOf n w) n) rs (putAmong q n rs (monic q n w))
 
 unfoldable pub insertRow : ℕ → ℕ → List (List ℕ) → List ℕ → List (List ℕ)
 insertRow q n rs v = insertResidue q n rs (residue q n rs v)

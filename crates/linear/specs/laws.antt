@@ -6,7 +6,7 @@ pub mod Echelon
 pub mod Within
 pub mod EchelonRows
 pub mod Residual
-pub mod PlaceRow
+pub mod PutAmong
 pub mod Element
 pub mod Lead
 pub mod Entries

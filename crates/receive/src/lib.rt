@@ -62,9 +62,10 @@ pub fn reduced_answer(q: u64, n: u64, k: u64, t: u64, row_count: u64, rows: &[u8
     let width = n as usize;
     let mut matrix = [0u8; 256];
     let mut pivots = [0u8; 16];
-    let d = reduction::reduce(
+    let d = reduction::insert_rows(
         q,
         width,
+        0,
         row_count as usize,
         rows,
         &mut matrix[..width * width],
@@ -79,8 +80,8 @@ pub fn reduced_answer(q: u64, n: u64, k: u64, t: u64, row_count: u64, rows: &[u8
 // 8 and 9, with the dimension, if the span has fewer or more than k dimensions.
 pub fn receive(q: u64, n: u64, k: u64, t: u64, row_count: u64, rows: &[u8]) -> Received
     ensures { λ r. ⌜ r ≡ receiveOf q n k t «row_count» (now (rows .entry)) ⌝ }
-    ensures { λ r. ⌜ Told q n k t (dimensionOf q n (rowsOf n «row_count» (now (rows .entry)))) (reducedOf q n (rowsOf n «row_count» (now (rows .entry))))
-        (receiveRefusal q n k t «row_count» (now (rows .entry))) r ⌝ }
+    ensures { λ r. ⌜ Told q n k t (dimensionOf q n (rowsOf n «row_count» (now (rows .entry))))
+        (reducedOf q n (rowsOf n «row_count» (now (rows .entry)))) (receiveRefusal q n k t «row_count» (now (rows .entry))) r ⌝ }
 {
     let refusal = rows_refusal(q, n, k, t, row_count, rows.len());
     if refusal != 0 {

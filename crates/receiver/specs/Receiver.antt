@@ -4,7 +4,7 @@
 --   startNumber      == document 01's refusal number of what Start hands back
 --   wellFormed r     == the test that Take and Close make before anything else: the settings are accepted, the dimension is at most n, the
 --                       first dimension×n entries are a reduced matrix, and all other entries are 0 (below 1). The theorem
---                       `reachable-exactly-well-formed` shows that it holds exactly for the receivers that an accepted Start and Takes leave
+--                       `reachable-exactly-well-formed` shows that it holds exactly for those that an accepted Start and Takes leave
 --   heldRows r       == the rows that the receiver holds
 --   holding q n k rows == the receiver that holds the reduced rows of `rows`
 --   takeRefusal      == "Take one row into a receiver: 14 if the receiver is none that Start and Take can leave after an accepted Start;

@@ -10,6 +10,7 @@ ghost use Rattle.receive.specs.Answer.{Told};
 ghost use Rattle.receiver.specs.Receiver.{startOf, startNumber, used, wellFormed, takeRefusal, takenIn, takeOf, takeNumber};
 ghost use Rattle.receiver.specs.Receiver.{takeRaised};
 ghost use Rattle.receiver.specs.Receiver.{lentReceiver, lentAnswer, closeRefusal, closeOf};
+ghost use Rattle.receiver.specs.laws.WellFormed.{made};
 ghost use Rattle.receiver.specs.laws.TakeAccepted.{TakeAccepted};
 use receive::Received;
 
@@ -83,56 +84,54 @@ struct Tested {
     vector: u16,
 }
 
-impl Receiver {
-    // Whether the receiver is one that Start and Take can leave after an accepted Start. The dimension is known to be at most n, and n at
-    // most 16, before the two are multiplied.
-    fn well_formed(self) -> Formed
-        ensures { λ r. ⌜ (r .formed ≡ wellFormed self)
-            × (r .vector ≡ pick (wellFormed self) (identifying (self .n) (self .dimension) (used self)) 0) ⌝ }
-    {
-        if settings::settings_refusal(self.q, self.n, self.k) != 0 {
-            return Formed {
-                formed: false,
-                vector: 0,
-            };
-        }
-        if self.n < self.dimension {
-            return Formed {
-                formed: false,
-                vector: 0,
-            };
-        }
-        let entries = self.entries;
-        let size = (self.dimension * self.n) as usize;
-        if !matrix::entries_below(&entries[..size], self.q) {
-            return Formed {
-                formed: false,
-                vector: 0,
-            };
-        }
-        if !matrix::entries_below(&entries[size..], 1) {
-            return Formed {
-                formed: false,
-                vector: 0,
-            };
-        }
-        let found = matrix::reduced_vector(
-            &entries[..size],
-            self.n as usize,
-            self.dimension as usize,
-        );
-        Formed {
-            formed: found.reduced,
-            vector: found.vector,
-        }
+// Whether the receiver of these settings, dimension and entries is one that Start and Take can leave after an accepted Start. The
+// dimension is known to be at most n, and n at most 16, before the two are multiplied.
+fn well_formed(q: u64, n: u64, k: u64, dimension: u64, entries: &[u8]) -> Formed
+    requires { ⌜ length (now entries) ≡ 256 ⌝ }
+    ensures { λ r. ⌜ (r .formed ≡ wellFormed (made q n k dimension (now (entries .entry))))
+        × (r .vector ≡ pick (wellFormed (made q n k dimension (now (entries .entry))))
+        (identifying n dimension (used (made q n k dimension (now (entries .entry))))) 0) ⌝ }
+{
+    if settings::settings_refusal(q, n, k) != 0 {
+        return Formed {
+            formed: false,
+            vector: 0,
+        };
     }
+    if n < dimension {
+        return Formed {
+            formed: false,
+            vector: 0,
+        };
+    }
+    let size = (dimension * n) as usize;
+    if !matrix::entries_below(&entries[..size], q) {
+        return Formed {
+            formed: false,
+            vector: 0,
+        };
+    }
+    if !matrix::entries_below(&entries[size..], 1) {
+        return Formed {
+            formed: false,
+            vector: 0,
+        };
+    }
+    let found = matrix::reduced_vector(&entries[..size], n as usize, dimension as usize);
+    Formed {
+        formed: found.reduced,
+        vector: found.vector,
+    }
+}
 
+impl Receiver {
     // The first refusal of Take that applies; 0 where none does.
     fn take_refusal(self, row: &[u8]) -> Tested
         ensures { λ r. ⌜ (r .refusal ≡ takeRefusal self (now (row .entry)))
             × (r .vector ≡ pick (wellFormed self) (identifying (self .n) (self .dimension) (used self)) 0) ⌝ }
     {
-        let found = self.well_formed();
+        let entries = self.entries;
+        let found = well_formed(self.q, self.n, self.k, self.dimension, &entries);
         let vector = found.vector;
         if !found.formed {
             return Tested {
@@ -160,7 +159,8 @@ impl Receiver {
         ensures { λ r. ⌜ (r .refusal ≡ closeRefusal self t)
             × (r .vector ≡ pick (wellFormed self) (identifying (self .n) (self .dimension) (used self)) 0) ⌝ }
     {
-        let found = self.well_formed();
+        let entries = self.entries;
+        let found = well_formed(self.q, self.n, self.k, self.dimension, &entries);
         let vector = found.vector;
         if !found.formed {
             return Tested {

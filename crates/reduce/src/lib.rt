@@ -61,7 +61,15 @@ pub fn reduce(q: u64, n: u64, row_count: u64, rows: &[u8], output: &mut [u8]) ->
     let width = n as usize;
     let mut pivots = [0u8; 16];
     matrix::clear(output);
-    let dimension = reduction::reduce(q, width, row_count as usize, rows, output, &mut pivots);
+    let dimension = reduction::insert_rows(
+        q,
+        width,
+        0,
+        row_count as usize,
+        rows,
+        output,
+        &mut pivots,
+    );
     Reduction::Done(Space {
         dimension: dimension as u64,
     })

@@ -1,4 +1,4 @@
--- The bytes that `reduce` leaves. The output holds the reduced rows, then zeros.
+-- What `insert_rows` leaves in the bytes. They hold the reduced rows, then zeros.
 --   padded size l == l, then zeros up to the size
 -- Assumes nothing.
 use mathlib.Core.List.{List, _++_}

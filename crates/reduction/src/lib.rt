@@ -6,54 +6,12 @@ ghost use lib.Dec.{T};
 ghost use lib.ListN.{length, getD, take, drop, replicate};
 ghost use Rattle.field.specs.Field.{isFieldSize};
 ghost use Rattle.linear.specs.Span.{All, Row, rowsOf};
-ghost use Rattle.linear.specs.Eliminate.{leadOf, eliminate as eliminated, residue as residueOf, monic as monicOf, place as placed};
-ghost use Rattle.linear.specs.Eliminate.{insertRow, join, reducedRows, reducedOf, dimension};
+ghost use Rattle.linear.specs.Eliminate.{leadOf, residue as residueOf};
+ghost use Rattle.linear.specs.Eliminate.{putAmong, insertRow, insertRows, join};
 ghost use Rattle.linear.specs.laws.InsertMany.{Kept};
 ghost use Rattle.reduction.specs.Padded.{padded};
-ghost use Rattle.reduction.specs.laws.Steps.{part, put, Apart, plusMultiple, multiple, leads, above, cleared, swapped, raised};
-
-// Adds c times the row at `from` to the row at `to`.
-fn add_scaled(q: u64, n: usize, c: u8, m: &mut [u8], from: usize, to: usize)
-    requires { ⌜ T (isFieldSize q) × (c < q) × Row q n (part n from (now m)) × Row q n (part n to (now m)) × Apart n from to ⌝ }
-    requires { ⌜ (from + n ≤ length (now m)) × (to + n ≤ length (now m)) ⌝ }
-    ensures { λ _. ⌜ now (m .exit)
-        ≡ put n to (plusMultiple q n c (part n from (now (m .entry))) (part n to (now (m .entry)))) (now (m .entry)) ⌝ }
-{
-    let mut j = 0;
-    while j < n {
-        m[to + j] = field::add_product(q, m[to + j], c, m[from + j]);
-        j += 1;
-    }
-}
-
-// Takes from the row at `to` the multiple of the row at `from` that makes it zero at p, that row's lead. Where it is zero there already,
-// nothing is left to do.
-fn eliminate(q: u64, n: usize, p: usize, m: &mut [u8], from: usize, to: usize)
-    requires { ⌜ T (isFieldSize q) × (p < n) × Row q n (part n from (now m)) × Row q n (part n to (now m)) × Apart n from to ⌝ }
-    requires { ⌜ (from + n ≤ length (now m)) × (to + n ≤ length (now m)) × (p ≡ leadOf n (part n from (now m))) ⌝ }
-    ensures { λ _. ⌜ now (m .exit)
-        ≡ put n to (eliminated q n (part n from (now (m .entry))) (part n to (now (m .entry)))) (now (m .entry)) ⌝ }
-{
-    let entry = m[to + p];
-    if entry != 0 {
-        let c = field::negate(q, entry);
-        add_scaled(q, n, c, m, from, to);
-    }
-}
-
-// Writes `row`, less the multiple of m's first row that makes it zero at p, that row's lead, to the place `to` of m.
-fn enter(q: u64, n: usize, p: usize, row: &[u8], m: &mut [u8], to: usize)
-    requires { ⌜ T (isFieldSize q) × (p < n) × Row q n (now row) × Row q n (part n 0 (now m)) × (n ≤ to) × (to + n ≤ length (now m)) ⌝ }
-    requires { ⌜ p ≡ leadOf n (part n 0 (now m)) ⌝ }
-    ensures { λ _. ⌜ now (m .exit) ≡ put n to (eliminated q n (part n 0 (now (m .entry))) (now (row .entry))) (now (m .entry)) ⌝ }
-{
-    let c = field::negate(q, row[p]);
-    let mut j = 0;
-    while j < n {
-        m[to + j] = field::add_product(q, row[j], c, m[j]);
-        j += 1;
-    }
-}
+ghost use Rattle.rows.specs.laws.Steps.{part, put};
+ghost use Rattle.reduction.specs.laws.Steps.{leads, above, cleared};
 
 // Writes `row`, eliminated with each of the d reduced rows of m, to the place after them. `pivots` holds their leads.
 fn residue(q: u64, n: usize, d: usize, row: &[u8], m: &mut [u8], pivots: &[u8])
@@ -66,43 +24,11 @@ fn residue(q: u64, n: usize, d: usize, row: &[u8], m: &mut [u8], pivots: &[u8])
         return;
     }
     let to = d * n;
-    enter(q, n, pivots[0] as usize, row, m, to);
+    rows::enter(q, n, pivots[0] as usize, row, m, to);
     let mut i = 1;
     while i < d {
-        eliminate(q, n, pivots[i] as usize, m, i * n, to);
+        rows::eliminate(q, n, pivots[i] as usize, m, i * n, to);
         i += 1;
-    }
-}
-
-// Multiplies v by c.
-fn scale(q: u64, n: usize, c: u8, v: &mut [u8])
-    requires { ⌜ T (isFieldSize q) × (c < q) × Row q n (now v) ⌝ }
-    ensures { λ _. ⌜ now (v .exit) ≡ multiple q n c (now (v .entry)) ⌝ }
-{
-    let mut j = 0;
-    while j < n {
-        v[j] = field::add_product(q, 0, c, v[j]);
-        j += 1;
-    }
-}
-
-// Divides v by its entry at p, its lead.
-fn divide(q: u64, n: usize, p: usize, v: &mut [u8])
-    requires { ⌜ T (isFieldSize q) × Row q n (now v) × (p ≡ leadOf n (now v)) × (p < n) ⌝ }
-    ensures { λ _. ⌜ now (v .exit) ≡ monicOf q n (now (v .entry)) ⌝ }
-{
-    let pivot = v[p];
-    let c = field::invert(q, pivot);
-    scale(q, n, c, v);
-}
-
-// Scales v so that its entry at p, its lead, is 1. Where it is 1, nothing is left to do.
-fn monic(q: u64, n: usize, p: usize, v: &mut [u8])
-    requires { ⌜ T (isFieldSize q) × Row q n (now v) × (p ≡ leadOf n (now v)) × (p < n) ⌝ }
-    ensures { λ _. ⌜ now (v .exit) ≡ monicOf q n (now (v .entry)) ⌝ }
-{
-    if v[p] != 1 {
-        divide(q, n, p, v);
     }
 }
 
@@ -122,53 +48,27 @@ fn clear_above(q: u64, n: usize, d: usize, p: usize, m: &mut [u8], pivots: &[u8]
         if p <= pivots[i] as usize {
             return i;
         }
-        eliminate(q, n, p, m, from, i * n);
+        rows::eliminate(q, n, p, m, from, i * n);
         i += 1;
     }
     i
 }
 
-// Exchanges the row at `at` and the next one.
-fn swap(n: usize, m: &mut [u8], at: usize)
-    requires { ⌜ at + n + n ≤ length (now m) ⌝ }
-    ensures { λ _. ⌜ now (m .exit) ≡ swapped n at (now (m .entry)) ⌝ }
-{
-    let mut j = 0;
-    while j < n {
-        let above = m[at + j];
-        m[at + j] = m[at + n + j];
-        m[at + n + j] = above;
-        j += 1;
-    }
-}
-
-// Moves row d up to row `at`, and the rows between one down.
-fn raise(n: usize, d: usize, at: usize, m: &mut [u8])
-    requires { ⌜ (at ≤ d) × (d * n + n ≤ length (now m)) ⌝ }
-    ensures { λ _. ⌜ now (m .exit) ≡ raised n (d * n) (at * n) (now (m .entry)) ⌝ }
-{
-    let mut i = d;
-    while i > at {
-        i -= 1;
-        swap(n, m, i * n);
-    }
-}
-
 // Puts row d among the d rows before it in the order of leads, and clears p, its lead, in the rows above it.
-fn place(q: u64, n: usize, d: usize, p: usize, m: &mut [u8], pivots: &mut [u8])
+fn put_among(q: u64, n: usize, d: usize, p: usize, m: &mut [u8], pivots: &mut [u8])
     requires { ⌜ T (isFieldSize q) × (d * n + n ≤ length (now m)) × All (Row q n) (rowsOf n d (now m))
         × Row q n (part n (d * n) (now m)) ⌝ }
     requires { ⌜ (d < length (now pivots)) × (take d (now pivots) ≡ leads n (rowsOf n d (now m))) × (p < n) × (n ≤ 256)
         × (p ≡ leadOf n (part n (d * n) (now m))) ⌝ }
-    ensures { λ _. ⌜ now (m .exit) ≡ join (placed q n (rowsOf n d (now (m .entry))) (part n (d * n) (now (m .entry))))
+    ensures { λ _. ⌜ now (m .exit) ≡ join (putAmong q n (rowsOf n d (now (m .entry))) (part n (d * n) (now (m .entry))))
         ++ drop (d * n + n) (now (m .entry)) ⌝ }
     ensures { λ _. ⌜ take (d + 1) (now (pivots .exit))
-        ≡ leads n (placed q n (rowsOf n d (now (m .entry))) (part n (d * n) (now (m .entry)))) ⌝ }
+        ≡ leads n (putAmong q n (rowsOf n d (now (m .entry))) (part n (d * n) (now (m .entry)))) ⌝ }
 {
     let at = clear_above(q, n, d, p, m, pivots);
-    raise(n, d, at, m);
+    rows::raise(n, d, at, m);
     pivots[d] = p as u8;
-    raise(1, d, at, pivots);
+    rows::raise(1, d, at, pivots);
 }
 
 // Takes `row` into the d reduced rows of m, which has room for one more, by its residue; answers how many there are now. Zeros follow them.
@@ -187,8 +87,8 @@ fn insert_residue(q: u64, n: usize, d: usize, row: &[u8], m: &mut [u8], pivots: 
     if p == n {
         return d;
     }
-    monic(q, n, p, &mut m[at..at + n]);
-    place(q, n, d, p, m, pivots);
+    rows::monic(q, n, p, &mut m[at..at + n]);
+    put_among(q, n, d, p, m, pivots);
     d + 1
 }
 
@@ -208,28 +108,35 @@ pub fn insert(q: u64, n: usize, d: usize, row: &[u8], m: &mut [u8], pivots: &mut
     insert_residue(q, n, d, row, m, pivots)
 }
 
-// Takes the `count` rows of `input` into m, which is all zeros, and answers how many reduced rows it then holds. `pivots` is left with
-// their leads.
-pub fn reduce(
+// Takes the `count` rows of `input` into the d reduced rows of m, which has room for n rows and holds zeros after them, and answers how
+// many there are now; it ends at n. `pivots` holds their leads.
+pub fn insert_rows(
     q: u64,
     n: usize,
+    d: usize,
     count: usize,
     input: &[u8],
     m: &mut [u8],
     pivots: &mut [u8],
 ) -> usize
-    requires { ⌜ T (isFieldSize q) × (length (now input) ≡ count * n) × ((i : ℕ) → i < length (now input) → getD (now input) i 0 < q) ⌝ }
-    requires { ⌜ (now m ≡ replicate (n * n) 0) × (n ≤ length (now pivots)) × (n ≤ 256) ⌝ }
-    ensures { λ r. ⌜ r ≡ dimension q n (rowsOf n count (now (input .entry))) ⌝ }
-    ensures { λ _. ⌜ now (m .exit) ≡ padded (n * n) (reducedOf q n (rowsOf n count (now (input .entry)))) ⌝ }
-    ensures { λ r. ⌜ take r (now (pivots .exit)) ≡ leads n (reducedRows q n (rowsOf n count (now (input .entry)))) ⌝ }
+    requires { ⌜ T (isFieldSize q) × Kept q n (rowsOf n d (now m)) × (now m ≡ padded (n * n) (join (rowsOf n d (now m)))) ⌝ }
+    requires { ⌜ (n ≤ length (now pivots)) × (take d (now pivots) ≡ leads n (rowsOf n d (now m))) × (n ≤ 256) ⌝ }
+    requires { ⌜ (length (now input) ≡ count * n) × ((i : ℕ) → i < length (now input) → getD (now input) i 0 < q) ⌝ }
+    ensures { λ r. ⌜ r ≡ length (insertRows q n (rowsOf n d (now (m .entry))) (rowsOf n count (now (input .entry)))) ⌝ }
+    ensures { λ _. ⌜ now (m .exit)
+        ≡ padded (n * n) (join (insertRows q n (rowsOf n d (now (m .entry))) (rowsOf n count (now (input .entry))))) ⌝ }
+    ensures { λ r. ⌜ take r (now (pivots .exit))
+        ≡ leads n (insertRows q n (rowsOf n d (now (m .entry))) (rowsOf n count (now (input .entry)))) ⌝ }
 {
-    let mut d = 0;
+    let mut held = d;
     let mut i = 0;
     while i < count {
+        if held == n {
+            return held;
+        }
         let at = i * n;
-        d = insert(q, n, d, &input[at..at + n], m, pivots);
+        held = insert(q, n, held, &input[at..at + n], m, pivots);
         i += 1;
     }
-    d
+    held
 }

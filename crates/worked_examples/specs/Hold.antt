@@ -27,7 +27,7 @@ use Rattle.ferrers.specs.Ferrers.{freeFrom, freeColumns, dots, diagram, total, 
 use Rattle.ferrers.specs.Ferrers.{diagramTerm, diagramPlace, largerDiagrams, ferrersIndex}
 use Rattle.ferrers.specs.Drawn.{diagramShape, sizedShape, ferrersShape, drawnFerrers}
 use Rattle.ferrers.specs.laws.ShapeRank.{shapeSize, shapePlace, shapeTableau, ferrersRank}
-use Rattle.linear.specs.Eliminate.{leadOf, eliminate, residue, monic, place, insertResidue, insertRow, insertRows, reducedRows, join}
+use Rattle.linear.specs.Eliminate.{leadOf, eliminate, residue, monic, putAmong, insertResidue, insertRow, insertRows, reducedRows, join}
 use Rattle.linear.specs.Eliminate.{reducedOf, dimension}
 use Rattle.linear.specs.Span.{combinationAt, combination, InSpan, SameSpan, rowsOf, HasDimension}
 use Rattle.refusal.specs.Refusal.{refuseUnless, first, unlessRefused}
@@ -70,7 +70,7 @@ each (e ∷ es) same = more (ap (λ l. getD l 0 []) same) (each es (ap (drop 1) 
 
 -- all rows at once
 every : All Holds (marked ++ (readings ++ refusals))
-unfolding placeAfter bufferAfter listingOutput fieldNames header linesFrom listingLine listRefusal parsed fieldAt decimalAt digitRun isDigit reading isNumeral lineText numeral numeralWithin rowsText rowText gaussian rowLengthOk shapeOk countOk settingsRefusal countOf isFieldSize add multiply negate inverseFrom invert leadFrom lead pivotAt identifying columnValue entriesBelow columnAlone rowReduced isReduced topValue cell flatten onesAmong extendedTermAt extendedTerm extendedIndex extendedColumn extendedBefore extendedRank extendedShape drawnExtended partitionsRow partitions freeFrom freeColumns dots diagram total size dottedFrom tableauOf tableau tableauValue diagramTerm diagramPlace largerDiagrams ferrersIndex shapeSize boxCount shapePlace shapeTableau ferrersRank diagramShape sizedShape ferrersShape drawnFerrers leadOf eliminate residue monic place insertResidue insertRow insertRows reducedRows join reducedOf dimension combinationAt combination InSpan SameSpan rowsOf HasDimension refuseUnless first unlessRefused isNumbering numberingOf choiceRefusal drawRefusal drawBuffer entriesRefusal numberRefusal numberOf reduceRefusal reduceBuffer spaceAnswer rowsRefusal receiveRefusal receiveOf allBelow sum sumRange value tabulate padded refusedWord refusedLine reduceOf convertRefusal convertNumber convertOf startOf wellFormed heldRows holding takeRefusal takenIn takeOf closeRefusal closeOf bytesOf exportedRefusal exportedNumber exportedOf exportedBytes spaceRefusal
+unfolding placeAfter bufferAfter listingOutput fieldNames header linesFrom listingLine listRefusal parsed fieldAt decimalAt digitRun isDigit reading isNumeral lineText numeral numeralWithin rowsText rowText gaussian rowLengthOk shapeOk countOk settingsRefusal countOf isFieldSize add multiply negate inverseFrom invert leadFrom lead pivotAt identifying columnValue entriesBelow columnAlone rowReduced isReduced topValue cell flatten onesAmong extendedTermAt extendedTerm extendedIndex extendedColumn extendedBefore extendedRank extendedShape drawnExtended partitionsRow partitions freeFrom freeColumns dots diagram total size dottedFrom tableauOf tableau tableauValue diagramTerm diagramPlace largerDiagrams ferrersIndex shapeSize boxCount shapePlace shapeTableau ferrersRank diagramShape sizedShape ferrersShape drawnFerrers leadOf eliminate residue monic putAmong insertResidue insertRow insertRows reducedRows join reducedOf dimension combinationAt combination InSpan SameSpan rowsOf HasDimension refuseUnless first unlessRefused isNumbering numberingOf choiceRefusal drawRefusal drawBuffer entriesRefusal numberRefusal numberOf reduceRefusal reduceBuffer spaceAnswer rowsRefusal receiveRefusal receiveOf allBelow sum sumRange value tabulate padded refusedWord refusedLine reduceOf convertRefusal convertNumber convertOf startOf wellFormed heldRows holding takeRefusal takenIn takeOf closeRefusal closeOf bytesOf exportedRefusal exportedNumber exportedOf exportedBytes spaceRefusal
 every = each (marked ++ (readings ++ refusals)) refl
 
 front : {P : Example → Type 0} (xs ys : List Example) → All P (xs ++ ys) → All P xs

@@ -57,7 +57,8 @@ module _ (q : ℕ) (laws : Laws q) (n : ℕ) where
   pub row-same : (r s : List ℕ) → Row q n r → Row q n s → ((j : ℕ) → at q laws r j ≡ at q laws s j) → r ≡ s
   unfolding at
   row-same r s hr hs e =
-      ext-getD 0 r s (hr .0 ∙ sym (hs .0)) (λ j h. element-injective q laws (getD r j 0) (getD s j 0) (row-below hr j) (row-below hs j) (e j))
+      ext-getD 0 r s (hr .0 ∙ sym (hs .0))
+      (λ j h. element-injective q laws (getD r j 0) (getD s j 0) (row-below hr j) (row-below hs j) (e j))
 
   pub row-tabulate : (f : ℕ → ℕ) → ((j : ℕ) → f j < q) → Row q n (tabulate f 0 n)
   row-tabulate f h =
@@ -77,7 +78,8 @@ module _ (q : ℕ) (laws : Laws q) (n : ℕ) where
 
   pub zero-at : {r : List ℕ} → Row q n r → (j : ℕ) → at q laws r j ≡ nought → getD r j 0 ≡ 0
   unfolding at
-  zero-at {r} h j e = element-injective q laws (getD r j 0) 0 (row-below h j) (omega (arith, laws .one-below)) (e ∙ sym (element-zero q laws))
+  zero-at {r} h j e =
+      element-injective q laws (getD r j 0) 0 (row-below h j) (omega (arith, laws .one-below)) (e ∙ sym (element-zero q laws))
 
   pub at-one : (r : List ℕ) (j : ℕ) → getD r j 0 ≡ 1 → at q laws r j ≡ unit
   unfolding at

@@ -39,7 +39,8 @@ module _ {F A : Type 0} (K : Scalars F) (at : A → ℕ → F) where
   pub spanned-mix : {rows : List A} {u v : ℕ → F} (w : ℕ → F) (a b : F) → Spanned K at rows u → Spanned K at rows v
       → ((j : ℕ) → w j ≡ a ⊗ u j ⊕ b ⊗ v j) → Spanned K at rows w
   spanned-mix w a b (nothing zu) (nothing zv) e =
-      nothing (λ j. e j ∙ ap₂ (λ x y. a ⊗ x ⊕ b ⊗ y) (zu j) (zv j) ∙ ap₂ (λ x y. x ⊕ y) (times-nought a) (times-nought b) ∙ plus-nought nought)
+      nothing (λ j. e j ∙ ap₂ (λ x y. a ⊗ x ⊕ b ⊗ y) (zu j) (zv j) ∙ ap₂ (λ x y. x ⊕ y) (times-nought a) (times-nought b)
+      ∙ plus-nought nought)
   spanned-mix w a b (adding {r = r} c u su eu) (adding d v sv ev) e =
       adding (a ⊗ c ⊕ b ⊗ d) (λ j. a ⊗ u j ⊕ b ⊗ v j) (spanned-mix (λ j. a ⊗ u j ⊕ b ⊗ v j) a b su sv (λ j. refl))
       (λ j. e j ∙ ap₂ (λ x y. a ⊗ x ⊕ b ⊗ y) (eu j) (ev j) ∙ mixed-sum a b c d (at r j) (u j) (v j))

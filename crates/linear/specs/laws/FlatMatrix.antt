@@ -51,7 +51,8 @@ join-entry n none i h j g = absurd (not-suc-le-zero h)
 join-entry n (more {x = r} {xs = rows} l ls) zero h j g =
     ap (λ x. getD (r ++ join rows) x 0) (omega arith) ∙ List·getD-append r (join rows) 0 j (omega arith)
 join-entry n (more {x = r} {xs = rows} l ls) (suc i) h j g =
-    ap (λ x. getD (r ++ join rows) x 0) (omega arith) ∙ getD-append-add r (join rows) (i * n + j) 0 ∙ join-entry n ls i (le-of-suc-le-suc h) j g
+    ap (λ x. getD (r ++ join rows) x 0) (omega arith) ∙ getD-append-add r (join rows) (i * n + j) 0
+    ∙ join-entry n ls i (le-of-suc-le-suc h) j g
 
 pub join-pivot : (n : ℕ) {rows : List (List ℕ)} → All (λ r. length r ≡ n) rows → (i : ℕ) → i < length rows
     → pivot n (join rows) i ≡ leadOf n (getD rows i [])

@@ -15,13 +15,13 @@ use lib.ListN.{length}
 use Rattle.field.specs.FieldLaws.{Laws}
 use Rattle.matrix.specs.Matrix.{Reduced}
 use Rattle.linear.specs.Span.{All, more, Row, InSpan, SameSpan}
-use Rattle.linear.specs.Eliminate.{leadOf, residue, monic, place, insertRow, join}
+use Rattle.linear.specs.Eliminate.{leadOf, residue, monic, putAmong, insertRow, join}
 use Rattle.linear.specs.laws.Every.{all-map, all-both}
 use Rattle.linear.specs.laws.Scalars.{Scalars}
 use Rattle.linear.specs.laws.FieldSpan.{spanned-top, spanned-each, spanned-below, spanned-nought}
 use Rattle.linear.specs.laws.Echelon.{echelon-nought}
 use Rattle.linear.specs.laws.Residual.{residual-cleared, residual-spanned, residual-spans}
-use Rattle.linear.specs.laws.PlaceRow.{Placed, placed-length, placed-echelon, placed-spanned, placed-spans, placed-spans-new}
+use Rattle.linear.specs.laws.PutAmong.{Among, among-length, among-echelon, among-spanned, among-spans, among-spans-new}
 use Rattle.linear.specs.laws.Element.{scalars}
 use Rattle.linear.specs.laws.Entries.{at, Spans, EchelonRows}
 use Rattle.linear.specs.laws.Coefficients.{span-spanned, spanned-span}
@@ -30,7 +30,8 @@ use Rattle.linear.specs.laws.FlatMatrix.{rows-join}
 use Rattle.linear.specs.laws.ReducedRows.{rows-sized, reduced-echelon, echelon-reduced}
 use Rattle.linear.specs.laws.RowLead.{at-before, leadOf-le, lead-none, none-lead}
 use Rattle.linear.specs.laws.Elimination.{monic-row}
-use Rattle.linear.specs.laws.InsertSteps.{residue-row, residue-residual, place-rows, place-placed, insertRow-zero, insertRow-other}
+use Rattle.linear.specs.laws.InsertSteps.{residue-row, residue-residual, putAmong-rows, putAmong-among}
+use Rattle.linear.specs.laws.InsertSteps.{insertRow-zero, insertRow-other}
 use Rattle.linear.specs.laws.InsertSteps.{monic-one, monic-before, monic-lead, monic-spanned, monic-spans}
 
 module _ (q : ℕ) (laws : Laws q) (n : ℕ) (rs : List (List ℕ)) (h : All (Row q n) rs) (R : Reduced q n (length rs) (join rs)) where
@@ -84,17 +85,18 @@ module _ (q : ℕ) (laws : Laws q) (n : ℕ) (rs : List (List ℕ)) (h : All (Ro
     taken-zero e =
         record { rows = h; reduced = echelon; spanned = below; spans = more (span-spanned q laws n v h (residue-zero .1 e)) each }
 
-    taken-other : leadOf n w < n → Taken (place q n rs (monic q n w))
+    taken-other : leadOf n w < n → Taken (putAmong q n rs (monic q n w))
     taken-other lt =
         record {
-          rows = place-rows q laws n u hu h;
+          rows = putAmong-rows q laws n u hu h;
           reduced =
-              placed-echelon (scalars q laws) (at q laws) (leadOf n) u (at-before q laws n u) one echelon (omega arith)
-              (all-map (λ s z. monic-before q laws n w hw lt (leadOf n s) z) cleared) placed;
+              among-echelon (scalars q laws) (at q laws) (leadOf n) u (at-before q laws n u) one echelon (omega arith)
+              (all-map (λ s z. monic-before q laws n w hw lt (leadOf n s) z) cleared) among;
           spanned =
-              placed-spanned _ _ _ u
-              (monic-spanned q laws n w hw lt (spanned-residue (v ∷ rs) below .0 (spanned-top (scalars q laws) (at q laws) v rs))) below placed;
-          spans = more (spanned-residue (place q n rs u) old .1 (monic-spans q laws n w hw lt new)) old;
+              among-spanned _ _ _ u
+              (monic-spanned q laws n w hw lt (spanned-residue (v ∷ rs) below .0 (spanned-top (scalars q laws) (at q laws) v rs)))
+              below among;
+          spans = more (spanned-residue (putAmong q n rs u) old .1 (monic-spans q laws n w hw lt new)) old;
         }
       where
         u : List ℕ
@@ -103,20 +105,20 @@ module _ (q : ℕ) (laws : Laws q) (n : ℕ) (rs : List (List ℕ)) (h : All (Ro
         hu : Row q n u
         hu = monic-row q laws n w hw
 
-        placed : Placed (scalars q laws) (at q laws) (leadOf n) u rs (place q n rs u)
-        placed = place-placed q laws n u hu echelon h
+        among : Among (scalars q laws) (at q laws) (leadOf n) u rs (putAmong q n rs u)
+        among = putAmong-among q laws n u hu echelon h
 
         one : at q laws u (leadOf n u) ≡ unit
         one = ap (at q laws u) (monic-lead q laws n w hw lt) ∙ monic-one q laws n w hw lt
 
-        all : All (Spans q laws (place q n rs u)) (place q n rs u)
-        all = spanned-each (scalars q laws) (at q laws) (place q n rs u)
+        all : All (Spans q laws (putAmong q n rs u)) (putAmong q n rs u)
+        all = spanned-each (scalars q laws) (at q laws) (putAmong q n rs u)
 
-        new : Spans q laws (place q n rs u) u
-        new = placed-spans-new _ _ _ u all placed
+        new : Spans q laws (putAmong q n rs u) u
+        new = among-spans-new _ _ _ u all among
 
-        old : All (Spans q laws (place q n rs u)) rs
-        old = placed-spans _ _ _ u all placed
+        old : All (Spans q laws (putAmong q n rs u)) rs
+        old = among-spans _ _ _ u all among
 
     taken : Taken (insertRow q n rs v)
     taken = cases (ℕ-discrete (leadOf n w) n)
@@ -140,4 +142,4 @@ module _ (q : ℕ) (laws : Laws q) (n : ℕ) (rs : List (List ℕ)) (h : All (Ro
     pub insert-raised : (InSpan q n rs v → ⊥) → length (insertRow q n rs v) ≡ suc (length rs)
     insert-raised outside =
         ap length (insertRow-other q n rs v (λ e. outside (residue-zero .1 e)))
-        ∙ placed-length _ _ _ _ (place-placed q laws n (monic q n w) (monic-row q laws n w hw) echelon h)
+        ∙ among-length _ _ _ _ (putAmong-among q laws n (monic q n w) (monic-row q laws n w hw) echelon h)

@@ -29,7 +29,10 @@ insertRows-append q n rs (v ∷ vs) ws = insertRows-append q n (insertRow q n rs
 module _ (q : ℕ) (laws : Laws q) (n : ℕ) where
   pub insert-kept : (rs : List (List ℕ)) → Kept q n rs → (v : List ℕ) → Row q n v → Kept q n (insertRow q n rs v)
   insert-kept rs k v hv =
-      record { rows = insert-rows q laws n rs (k .rows) (k .reduced) v hv; reduced = insert-reduced q laws n rs (k .rows) (k .reduced) v hv }
+      record {
+        rows = insert-rows q laws n rs (k .rows) (k .reduced) v hv;
+        reduced = insert-reduced q laws n rs (k .rows) (k .reduced) v hv;
+      }
 
   -- the span after one more row, as rows that lie in it
   insert-in : (rs : List (List ℕ)) → Kept q n rs → (v : List ℕ) → Row q n v → All (InSpan q n (v ∷ rs)) (insertRow q n rs v)

@@ -25,7 +25,8 @@ record First (f : ℕ → ℕ) (j left place : ℕ) : Type 0 where
 
 first : (f : ℕ → ℕ) (j left : ℕ) → First f j left (leadFrom f j left)
 unfolding leadFrom
-first f j zero = record { reach = omega arith; start = omega arith; before = λ i h g. absurd (omega arith); nonzero = λ h. absurd (omega arith) }
+first f j zero =
+    record { reach = omega arith; start = omega arith; before = λ i h g. absurd (omega arith); nonzero = λ h. absurd (omega arith) }
 first f j (suc left) = step (eqb (f j) 0) refl (first f (suc j) left)
   where
     at-start : eqb (f j) 0 ≡ true → First f (suc j) left (leadFrom f (suc j) left) → (i : ℕ) → j ≤ i → i < leadFrom f (suc j) left

@@ -72,7 +72,8 @@ module _ (q : ℕ) (laws : Laws q) (n : ℕ) where
 
   mixed-span : (rows : List (List ℕ)) → All (Row q n) rows → (v : List ℕ) → Mixed q n rows v → InSpan q n rows v
   mixed-span rows h v (given i l) = all-at (span-each rows h) [] i l
-  mixed-span rows h v (mixed cs vs l b each) = span-closed rows vs h (all-of [] vs (λ i g. mixed-span rows h (getD vs i []) (each i g))) cs l b
+  mixed-span rows h v (mixed cs vs l b each) =
+      span-closed rows vs h (all-of [] vs (λ i g. mixed-span rows h (getD vs i []) (each i g))) cs l b
 
   span-mixed : (rows : List (List ℕ)) (v : List ℕ) → InSpan q n rows v → Mixed q n rows v
   unfolding InSpan

@@ -2,14 +2,12 @@
 --   reducedRows-more   == one more row is one row taken in
 --   dimension-held, dimension-raised == it keeps the dimension where it is in the span, and raises it by one where it is not
 --   span-decide        == whether a row is in the span is decided
---   dimension-tells    == the dimension is kept exactly where the row is in the span
 -- Assumes nothing.
 use mathlib.Core.Path.{_≡_, ap, _∙_}
 use mathlib.Core.List.{List, [], _∷_, _++_}
 use mathlib.Core.Logic.{_↔_}
 use Prim.Native.Nat.{ℕ, suc}
 use native.Mathlib.Decide.{ℕ-discrete}
-use native.Mathlib.Omega.{arith}
 use lib.ListN.{length}
 use Rattle.field.specs.FieldLaws.{Laws}
 use Rattle.linear.specs.Span.{All, Row, InSpan, SameSpan}
@@ -41,7 +39,8 @@ module _ (q : ℕ) (laws : Laws q) (n : ℕ) (rows : List (List ℕ)) (h : All (
   unfolding dimension SameSpan
   dimension-raised v hv outside =
       ap length (reducedRows-more q n rows v)
-      ∙ insert-raised q laws n (reducedRows q n rows) (kept .rows) (kept .reduced) v hv (λ s. outside (reducedRows-span q laws n rows h v .0 s))
+      ∙ insert-raised q laws n (reducedRows q n rows) (kept .rows) (kept .reduced) v hv
+      (λ s. outside (reducedRows-span q laws n rows h v .0 s))
 
   pub span-decide : (v : List ℕ) → Row q n v → Dec (InSpan q n rows v)
   unfolding SameSpan
@@ -53,10 +52,3 @@ module _ (q : ℕ) (laws : Laws q) (n : ℕ) (rows : List (List ℕ)) (h : All (
       cases : Dec (leadOf n (residue q n (reducedRows q n rows) v) ≡ n) → Dec (InSpan q n rows v)
       cases (yes e) = yes (reducedRows-span q laws n rows h v .0 (zero .1 e))
       cases (no ne) = no (λ s. ne (zero .0 (reducedRows-span q laws n rows h v .1 s)))
-
-  pub dimension-tells : (v : List ℕ) → Row q n v → (dimension q n (rows ++ (v ∷ [])) ≡ dimension q n rows) ↔ InSpan q n rows v
-  dimension-tells v hv = (λ e. cases e (span-decide v hv), dimension-held v)
-    where
-      cases : dimension q n (rows ++ (v ∷ [])) ≡ dimension q n rows → Dec (InSpan q n rows v) → InSpan q n rows v
-      cases e (yes s) = s
-      cases e (no outside) = absurd (omega (arith, dimension-raised v hv outside))

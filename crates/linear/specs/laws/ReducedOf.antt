@@ -1,5 +1,6 @@
 -- The reduced matrix of a list of rows is what its name says. Document 01: "The dimension of a list is the number of rows, none to n, of
 -- the one reduced matrix with the same span."
+--   no-rows           == no rows are reduced
 --   reducedRows-kept  == the reduced matrix as rows: they are rows, reduced when joined
 --   reducedRows-span  == they have the rows' span
 --   reducedOf-rows    == they are the rows of the matrix
@@ -34,19 +35,20 @@ pub reduced-le : (q n k : ℕ) (m : List ℕ) → Reduced q n k m → k ≤ n
 reduced-le q n zero m R = omega arith
 reduced-le q n (suc k) m R = omega (arith, pivot-after R k (omega arith), R .no-zero-row k (omega arith))
 
-module _ (q : ℕ) (laws : Laws q) (n : ℕ) (rows : List (List ℕ)) (h : All (Row q n) rows) where
-  no-rows : Kept q n []
-  no-rows = record { rows = none; reduced = echelon-reduced q laws n {lo = 0} [] none empty }
+pub no-rows : (q : ℕ) → Laws q → (n : ℕ) → Kept q n []
+no-rows q laws n = record { rows = none; reduced = echelon-reduced q laws n {lo = 0} [] none empty }
 
+module _ (q : ℕ) (laws : Laws q) (n : ℕ) (rows : List (List ℕ)) (h : All (Row q n) rows) where
   pub reducedRows-kept : Kept q n (reducedRows q n rows)
   unfolding reducedRows
-  reducedRows-kept = insertRows-kept q laws n [] no-rows h
+  reducedRows-kept = insertRows-kept q laws n [] (no-rows q laws n) h
 
   pub reducedRows-span : SameSpan q n (reducedRows q n rows) rows
   unfolding reducedRows
   reducedRows-span =
       span-same q laws n (reducedRows q n rows) rows (reducedRows-kept .rows) h
-      (insertRows-spanned q laws n rows h [] no-rows none h (span-each q laws n rows h)) (insertRows-new q laws n [] no-rows h)
+      (insertRows-spanned q laws n rows h [] (no-rows q laws n) none h (span-each q laws n rows h))
+      (insertRows-new q laws n [] (no-rows q laws n) h)
 
   pub reducedOf-reduced : Reduced q n (dimension q n rows) (reducedOf q n rows)
   unfolding dimension reducedOf

@@ -41,7 +41,8 @@ module _ {F A : Type 0} (K : Scalars F) (at : A → ℕ → F) where
       (λ j. sym (ap (λ x. x ⊕ c ⊗ at r j) (unit-times K (at u j) ∙ e j) ∙ minus-back K (at v j) c (at r j)))
 
   pub takenOff-kept : {r v u : A} (c : F) → TakenOff K at r c v u → (j : ℕ) → at r j ≡ nought → at u j ≡ at v j
-  takenOff-kept {v = v} c e j z = e j ∙ ap (λ x. at v j ⊕ minus c ⊗ x) z ∙ ap (λ x. at v j ⊕ x) (times-nought (minus c)) ∙ plus-nought (at v j)
+  takenOff-kept {v = v} c e j z =
+      e j ∙ ap (λ x. at v j ⊕ minus c ⊗ x) z ∙ ap (λ x. at v j ⊕ x) (times-nought (minus c)) ∙ plus-nought (at v j)
 
   pub takenOff-cleared : {r v u : A} (j : ℕ) → TakenOff K at r (at v j) v u → at r j ≡ unit → at u j ≡ nought
   takenOff-cleared {v = v} j e one =

@@ -1,6 +1,5 @@
 -- What the reduced matrix of a list of rows depends on: the span alone.
---   reducedOf-same, dimension-same == lists with the same span have the same reduced matrix and dimension
---   reducedOf-rearranged == so order and repeats do not matter: two lists, each row of which stands somewhere in the other
+--   reducedOf-rearranged == order and repeats do not matter: two lists, each row of which stands somewhere in the other
 --   reducedRows-again    == reduced rows are their own reduced rows
 --   within-dimension     == rows in the span of a reduced matrix of k rows have at most dimension k, and k only where it is their matrix
 -- Assumes nothing.
@@ -21,20 +20,12 @@ use Rattle.linear.specs.laws.Unique.{reduced-within}
 use Rattle.linear.specs.laws.ReducedOf.{reducedOf-reduced, reducedOf-rows, reducedOf-span, reducedOf-unique}
 
 module _ (q : ℕ) (laws : Laws q) (n : ℕ) where
-  same-matrix : (rows others : List (List ℕ)) → All (Row q n) rows → All (Row q n) others → SameSpan q n rows others
-      → (dimension q n rows ≡ dimension q n others) × (reducedOf q n rows ≡ reducedOf q n others)
-  unfolding SameSpan
-  same-matrix rows others h g s =
-      reducedOf-unique q laws n others g (dimension q n rows) (reducedOf q n rows) (reducedOf-reduced q laws n rows h)
-      (λ v. (λ x. s v .0 (reducedOf-span q laws n rows h v .0 x), λ x. reducedOf-span q laws n rows h v .1 (s v .1 x)))
-
-  pub reducedOf-same : (rows others : List (List ℕ)) → All (Row q n) rows → All (Row q n) others → SameSpan q n rows others
+  reducedOf-same : (rows others : List (List ℕ)) → All (Row q n) rows → All (Row q n) others → SameSpan q n rows others
       → reducedOf q n rows ≡ reducedOf q n others
-  reducedOf-same rows others h g s = same-matrix rows others h g s .1
-
-  pub dimension-same : (rows others : List (List ℕ)) → All (Row q n) rows → All (Row q n) others → SameSpan q n rows others
-      → dimension q n rows ≡ dimension q n others
-  dimension-same rows others h g s = same-matrix rows others h g s .0
+  unfolding SameSpan
+  reducedOf-same rows others h g s =
+      reducedOf-unique q laws n others g (dimension q n rows) (reducedOf q n rows) (reducedOf-reduced q laws n rows h)
+      (λ v. (λ x. s v .0 (reducedOf-span q laws n rows h v .0 x), λ x. reducedOf-span q laws n rows h v .1 (s v .1 x))) .1
 
   stands-in : (rows others : List (List ℕ)) → All (Row q n) others
       → ((i : ℕ) → i < length rows → (j : ℕ) × (j < length others) × (getD others j [] ≡ getD rows i [])) → All (InSpan q n others) rows

@@ -23,7 +23,8 @@ use Rattle.linear.specs.laws.ReducedRows.{reduced-rows, reduced-echelon}
 module _ (q : ℕ) (laws : Laws q) (n : ℕ) where
   pub reduced-within : {a b : ℕ} {R M : List ℕ} → Reduced q n a R → Reduced q n b M
       → ((v : List ℕ) → InSpan q n (rowsOf n a R) v → InSpan q n (rowsOf n b M) v) → (a ≤ b) × (a ≡ b → R ≡ M)
-  reduced-within {a} {b} {R} {M} hR hM h = (subst₂ _≤_ (rows-length n a R) (rows-length n b M) (rows .0), λ e. matrices (rows .1 (lengths e)))
+  reduced-within {a} {b} {R} {M} hR hM h =
+      (subst₂ _≤_ (rows-length n a R) (rows-length n b M) (rows .0), λ e. matrices (rows .1 (lengths e)))
     where
       rows : (length (rowsOf n a R) ≤ length (rowsOf n b M)) × (length (rowsOf n a R) ≡ length (rowsOf n b M) → rowsOf n a R ≡ rowsOf n b M)
       rows =

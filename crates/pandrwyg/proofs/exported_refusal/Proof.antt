@@ -41,7 +41,8 @@ returns-4 : tie.Need-returns-4
 returns-4 c =
     let b = c .before .before in
     sym
-    (exported-unrefused _ _ _ _ _ _ _ (begun (b .before)) (b .if2 .left) (sym (c .before .entries-below .ensures) ∙ not-false _ (c .if3 .left)))
+    (exported-unrefused _ _ _ _ _ _ _ (begun (b .before)) (b .if2 .left)
+    (sym (c .before .entries-below .ensures) ∙ not-false _ (c .if3 .left)))
 
 pub exported-refusal-spec : {M : Type 1} → statement M
 exported-refusal-spec =

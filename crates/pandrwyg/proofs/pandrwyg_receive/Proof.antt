@@ -57,8 +57,13 @@ returns-2 c =
     let b = l .before .before in
     let a = b .before .before .before .before .before .args in
     let r = b .reduced-answer .ensures ∙ done _ _ _ (unrefused (b .before)) in
-    let number = l .leave .ensures .0 ∙ ap receivedNumber r in
-    (number, (l .leave .ensures .1 ∙ ap (leftBytes (a .k) (a .answer .now)) r, number ∙ exported-told _ _ _ _ _ _ (length (a .answer .now)) .number))
+    let number = l .leave .ensures .0 ∙ ap receivedNumber r in (
+      number,
+      (
+        l .leave .ensures .1 ∙ ap (leftBytes (a .k) (a .answer .now)) r,
+        number ∙ exported-told _ _ _ _ _ _ (length (a .answer .now)) .number,
+      ),
+    )
 
 pub pandrwyg-receive-spec : {M : Type 1} → statement M
 pandrwyg-receive-spec =

@@ -37,7 +37,8 @@ writing-more index now rest i h w =
       within = omega arith;
       sized = length-set now i byte ∙ w .sized;
       bytes =
-          ap (λ t. t ++ bytesOf (8 - (i + 1)) (rest / 256)) (ap (λ x. take x (set now i byte)) s ∙ take-set now i byte (omega (arith, w .sized)))
+          ap (λ t. t ++ bytesOf (8 - (i + 1)) (rest / 256))
+          (ap (λ x. take x (set now i byte)) s ∙ take-set now i byte (omega (arith, w .sized)))
           ∙ append-assoc (take i now) (byte ∷ []) (bytesOf (8 - (i + 1)) (rest / 256))
           ∙ ap (λ x. take i now ++ bytesOf x rest) (sym e)
           ∙ w .bytes;

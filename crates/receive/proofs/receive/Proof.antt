@@ -37,7 +37,8 @@ returns-2 c =
     let a = c .before .before .before .before .before .args in
     let r = receiveRefusal (a .q) (a .n) (a .k) (a .t) (a .row-count) (a .rows .now) in
     let same : entryRefusal ≡ receiveRefusal (a .q) (a .n) (a .k) (a .t) (a .row-count) (a .rows .now) =
-    sym (first-passed _ _ (unrefused (c .before .before)) ∙ test-refused _ _ _ tt (sym (c .before .entries-below .ensures) ∙ not-true _ (c .if2 .taken)))
+    sym (first-passed _ _ (unrefused (c .before .before))
+    ∙ test-refused _ _ _ tt (sym (c .before .entries-below .ensures) ∙ not-true _ (c .if2 .taken)))
     in
     let e = ap Refused same ∙ kept r _ _ (λ z. absurd (omega (arith, same, z))) in
     (e, receive-told _ _ _ _ _ _ _ e)

@@ -6,10 +6,14 @@ use native.Mathlib.Nat.{min-eq-left, mul-le-mul}
 use native.Mathlib.Omega.{arith}
 use lib.ListN.{length, take, drop, replicate, length-take, length-drop, length-append, length-replicate, replicate-append-replicate}
 use lib.Seq.{take-at}
+use Rattle.field.specs.laws.Decide.{laws}
 use Rattle.matrix.specs.laws.Tests.{entries-below}
 use Rattle.matrix.specs.Matrix.{pivot, Reduced}
 use Rattle.linear.specs.Span.{rowsOf}
-use Rattle.linear.specs.Eliminate.{reducedOf}
+use Rattle.linear.specs.Eliminate.{reducedRows, reducedOf, dimension}
+use Rattle.reduction.specs.Padded.{padded}
+use Rattle.reduction.specs.laws.InsertRows.{holds-nothing}
+use Rattle.reduction.specs.laws.Steps.{leads}
 use Rattle.receive.specs.Answer.{spaceAnswer}
 use Rattle.receive.specs.laws.ReducedAnswer.{received-reduced, received-most, received-fits, received-front, received-pivots}
 use borrow.Author.Needs.{needs}
@@ -39,56 +43,76 @@ mul-matrix c = omega (arith, square (c .before .pre .0 .settings .narrow))
 array-borrow-prefix-matrix : tie.Need-array-borrow-prefix-matrix
 array-borrow-prefix-matrix c = square (c .before .pre .0 .settings .narrow)
 
-slice-aggregate-reduce : tie.Need-slice-aggregate-reduce
+slice-aggregate-insert-rows : tie.Need-slice-aggregate-insert-rows
 unfolding zeros
-slice-aggregate-reduce c = sym (part 256 (square (c .before .before .pre .0 .settings .narrow)))
+slice-aggregate-insert-rows c = sym (part 256 (square (c .before .before .pre .0 .settings .narrow)))
 
-slice-aggregate-reduce-2 : tie.Need-slice-aggregate-reduce-2
-slice-aggregate-reduce-2 c = search needs
+slice-aggregate-insert-rows-2 : tie.Need-slice-aggregate-insert-rows-2
+slice-aggregate-insert-rows-2 c = search needs
 
-reduce-requires : tie.Need-reduce-requires
+insert-rows-requires : tie.Need-insert-rows-requires
 unfolding zeros
-reduce-requires c κs =
+insert-rows-requires c κs =
     let p = c .before .before .before .pre in
     let h = p .0 .settings .narrow in
-    ((p .0 .settings .size, p .2, entries-below _ _ (p .3)), (front 256 (square h), h, omega (arith, h)))
+    let asks = holds-nothing _ (laws _ (p .0 .settings .size)) _ _ (front 256 (square h)) in
+    ((p .0 .settings .size, asks .0, asks .1), ((h, asks .2, omega (arith, h)), (p .2, entries-below _ _ (p .3))))
 
 -- what the reduction leaves: its rows fit, and stand first in the array
-module _ (c : tie.After-reduce) where
-  rows-fit : let s = c .before .before .before .before in c .reduce .result * s .args .n ≤ 256
+module _ (c : tie.After-insert-rows) where
+  abbrev start : tie.Start
+  start = c .before .before .before .before
+
+  abbrev input : List (List ℕ)
+  input = let a = start .args in rowsOf (a .n) (a .row-count) (a .rows .now)
+
+  -- the bytes and the pivots that were lent
+  abbrev filled : List ℕ
+  filled = c .insert-rows .last .1 .1 .1 .1 .1 .0
+
+  abbrev pivots : List ℕ
+  pivots = c .insert-rows .last .1 .1 .1 .1 .1 .1 .0
+
+  told : let a = start .args in
+      (c .insert-rows .result ≡ dimension (a .q) (a .n) input)
+      × ((filled ≡ padded (a .n * a .n) (reducedOf (a .q) (a .n) input))
+      × (take (c .insert-rows .result) pivots ≡ leads (a .n) (reducedRows (a .q) (a .n) input)))
+  unfolding dimension reducedOf reducedRows rowsOf
+  told = c .insert-rows .ensures
+
+  rows-fit : c .insert-rows .result * start .args .n ≤ 256
   rows-fit =
-      let s = c .before .before .before .before in
-      received-fits (s .args .q) (s .args .n) (s .args .row-count) (s .args .rows .now) (s .pre .0 .settings .size) (s .pre .2) (s .pre .3)
-      (c .reduce .result) (c .reduce .ensures .0) (s .pre .0 .settings .narrow)
+      let a = start .args in
+      received-fits (a .q) (a .n) (a .row-count) (a .rows .now) (start .pre .0 .settings .size) (start .pre .2) (start .pre .3)
+      (c .insert-rows .result) (told .0) (start .pre .0 .settings .narrow)
 
   -- the array after the reduction
   array : List ℕ
-  array = let n = c .before .before .before .before .args .n in c .reduce .last .1 .1 .1 .1 .0 ++ drop (n * n) (zeros 256)
+  array = let n = start .args .n in filled ++ drop (n * n) (zeros 256)
 
-  array-front : let s = c .before .before .before .before in
-      take (c .reduce .result * s .args .n) array ≡ reducedOf (s .args .q) (s .args .n) (rowsOf (s .args .n) (s .args .row-count) (s .args .rows .now))
+  array-front : take (c .insert-rows .result * start .args .n) array ≡ reducedOf (start .args .q) (start .args .n) input
   unfolding array
   array-front =
-      let s = c .before .before .before .before in
-      received-front (s .args .q) (s .args .n) (s .args .row-count) (s .args .rows .now) (s .pre .0 .settings .size) (s .pre .2) (s .pre .3)
-      (c .reduce .result) (c .reduce .last .1 .1 .1 .1 .0) (drop (s .args .n * s .args .n) (zeros 256)) (c .reduce .ensures .0) (c .reduce .ensures .1 .0)
+      let a = start .args in
+      received-front (a .q) (a .n) (a .row-count) (a .rows .now) (start .pre .0 .settings .size) (start .pre .2) (start .pre .3)
+      (c .insert-rows .result) filled (drop (a .n * a .n) (zeros 256)) (told .0) (told .1 .0)
 
   array-length : length array ≡ 256
   unfolding array zeros
   array-length =
-      let s = c .before .before .before .before in
-      let h : s .args .n * s .args .n ≤ 256 = square (s .pre .0 .settings .narrow) in
-      let l : length (c .reduce .last .1 .1 .1 .1 .0) ≡ s .args .n * s .args .n = c .reduce .kept .1 .1 .1 .1 .0 ∙ part 256 h in
-      length-append (c .reduce .last .1 .1 .1 .1 .0) (drop (s .args .n * s .args .n) (zeros 256))
-      ∙ omega (arith, l, h, length-drop (s .args .n * s .args .n) (zeros 256), length-replicate {A = ℕ} 256 0)
+      let square-of : ℕ = start .args .n * start .args .n in
+      let h : square-of ≤ 256 = square (start .pre .0 .settings .narrow) in
+      let l : length filled ≡ square-of = c .insert-rows .kept .1 .1 .1 .1 .1 .0 ∙ part 256 h in
+      length-append filled (drop square-of (zeros 256))
+      ∙ omega (arith, l, h, length-drop square-of (zeros 256), length-replicate {A = ℕ} 256 0)
 
-  front-reduced : let s = c .before .before .before .before in
-      Reduced (s .args .q) (s .args .n) (c .reduce .result) (take (c .reduce .result * s .args .n) array)
+  front-reduced : let a = start .args in
+      Reduced (a .q) (a .n) (c .insert-rows .result) (take (c .insert-rows .result * a .n) array)
   front-reduced =
-      let s = c .before .before .before .before in
-      let r = received-reduced (s .args .q) (s .args .n) (s .args .row-count) (s .args .rows .now) (s .pre .0 .settings .size) (s .pre .2) (s .pre .3) in
-      subst (Reduced (s .args .q) (s .args .n) (c .reduce .result)) (sym array-front)
-      (subst (λ d. Reduced (s .args .q) (s .args .n) d (reducedOf (s .args .q) (s .args .n) (rowsOf (s .args .n) (s .args .row-count) (s .args .rows .now)))) (sym (c .reduce .ensures .0)) r)
+      let a = start .args in
+      subst (Reduced (a .q) (a .n) (c .insert-rows .result)) (sym array-front)
+      (subst (λ d. Reduced (a .q) (a .n) d (reducedOf (a .q) (a .n) input)) (sym (told .0))
+      (received-reduced (a .q) (a .n) (a .row-count) (a .rows .now) (start .pre .0 .settings .size) (start .pre .2) (start .pre .3)))
 
 mul-size : tie.Need-mul-size
 mul-size c = omega (arith, rows-fit (c .before .before))
@@ -111,13 +135,15 @@ vector-of-requires c κs =
     let s = r .before .before .before .before in
     let a = s .args in
     let h = s .pre .0 .settings .narrow in
-    let most = received-most (a .q) (a .n) (a .row-count) (a .rows .now) (s .pre .0 .settings .size) (s .pre .2) (s .pre .3) (r .reduce .result) (r .reduce .ensures .0) in (
+    let most =
+    received-most (a .q) (a .n) (a .row-count) (a .rows .now) (s .pre .0 .settings .size) (s .pre .2) (s .pre .3) (r .insert-rows .result)
+    (told r .0) in (
       h,
       (_, front-reduced r),
-      omega (arith, h, most, r .reduce .kept .1 .1 .1 .1 .1 .0),
+      omega (arith, h, most, r .insert-rows .kept .1 .1 .1 .1 .1 .1 .0),
       λ i l.
-          received-pivots (a .q) (a .n) (a .row-count) (a .rows .now) (s .pre .0 .settings .size) (s .pre .2) (s .pre .3) (r .reduce .result) _
-          (r .reduce .ensures .0) (r .reduce .ensures .1 .1) i l
+          received-pivots (a .q) (a .n) (a .row-count) (a .rows .now) (s .pre .0 .settings .size) (s .pre .2) (s .pre .3)
+          (r .insert-rows .result) _ (told r .0) (told r .1 .1) i l
           ∙ ap (λ m. pivot (a .n) m i) (sym (array-front r)),
     )
 
@@ -142,7 +168,7 @@ unfolding array zeros
 returns c =
     let r = c .before .before .before .before .before .before .before in
     let a = r .before .before .before .before .args in
-    c .space-answer .ensures ∙ ap₂ (spaceAnswer (a .q) (a .n) (a .k) (a .t)) (r .reduce .ensures .0) (array-front r)
+    c .space-answer .ensures ∙ ap₂ (spaceAnswer (a .q) (a .n) (a .k) (a .t)) (told r .0) (array-front r)
 
 pub reduced-answer-spec : {M : Type 1} → statement M
 reduced-answer-spec =
@@ -150,9 +176,9 @@ reduced-answer-spec =
     (tie.spec
     mul-matrix
     array-borrow-prefix-matrix
-    slice-aggregate-reduce
-    slice-aggregate-reduce-2
-    reduce-requires
+    slice-aggregate-insert-rows
+    slice-aggregate-insert-rows-2
+    insert-rows-requires
     mul-size
     array-share-prefix-matrix
     slice-aggregate-vector-of

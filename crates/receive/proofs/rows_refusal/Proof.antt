@@ -32,8 +32,11 @@ returns-2 c =
 mul-if3 : tie.Need-mul-if3
 mul-if3 c =
     let a = c .before .before .before .args in
-    omega
-    (arith, mul-le-mul {n₁ = a .row-count} {m₁ = a .n} {n₂ = 64} {m₂ = 16} (c .if2 .left) (chosen _ _ _ _ (chose (c .before)) .settings .narrow))
+    omega (
+      arith,
+      mul-le-mul {n₁ = a .row-count} {m₁ = a .n} {n₂ = 64} {m₂ = 16} (c .if2 .left)
+          (chosen _ _ _ _ (chose (c .before)) .settings .narrow),
+    )
 
 returns-3 : tie.Need-returns-3
 unfolding rowsRefusal

@@ -57,7 +57,8 @@ module _ (q n k t d : ℕ) (m : List ℕ) where
       many : k ≤ d → k < d → Told q n k t d m r (spaceAnswer q n k t d m)
       many l h =
           subst (Told q n k t d m r) (space-many l h)
-          (told (TooMany (record { dimension = d })) tooManyRefusal r z (test-passed _ _ _ (le-leb k d l) ∙ test-refused _ _ _ tt (lt-leb d k h)) refl
+          (told (TooMany (record { dimension = d })) tooManyRefusal r z
+          (test-passed _ _ _ (le-leb k d l) ∙ test-refused _ _ _ tt (lt-leb d k h)) refl
           (kept tooManyRefusal (indexOf q n k t m) 0 (λ x. absurd (omega (arith, x)))) refl)
 
       whole : k ≤ d → d ≤ k → Told q n k t d m r (spaceAnswer q n k t d m)

@@ -74,7 +74,9 @@ module _ (r : Receiver) (size : length (r .entries) ≡ 256) (s : Sound r) where
       (sym (ap length again ∙ held-length))
     where
       again : reducedRows (r .q) (r .n) (heldRows r) ≡ heldRows r
-      again = reducedRows-again (r .q) (settings-laws (r .q) (r .n) (r .k) (s .settings)) (r .n) (heldRows r) (held-kept .rows) (held-kept .reduced)
+      again =
+          reducedRows-again (r .q) (settings-laws (r .q) (r .n) (r .k) (s .settings)) (r .n) (heldRows r) (held-kept .rows)
+          (held-kept .reduced)
 
       entries : r .entries ≡ padded 256 (reducedOf (r .q) (r .n) (heldRows r))
       entries =

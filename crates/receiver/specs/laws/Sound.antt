@@ -67,7 +67,8 @@ module _ (r : Receiver) where
   pub used-reduced : Sound r → isReduced (r .n) (r .dimension) (used r) ≡ true
   used-reduced s =
       is-true (isReduced (r .n) (r .dimension) (used r))
-      (reduced-exactly (r .q) (r .n) (r .dimension) (used r) (s .reduced .size) (holds (entriesBelow (r .q) (used r)) (used-below s)) .1 (s .reduced))
+      (reduced-exactly (r .q) (r .n) (r .dimension) (used r) (s .reduced .size) (holds (entriesBelow (r .q) (used r)) (used-below s)) .1
+      (s .reduced))
 
   pub well-formed : length (r .entries) ≡ 256 → Sound r → wellFormed r ≡ true
   unfolding wellFormed

@@ -70,10 +70,12 @@ module _ (r : Receiver) (row : List ℕ) where
       cases : Dec (takeRefusal r row ≡ 0)
           → (takeNumber (a .answer) ≡ takeRefusal r row) × (takeRaised (a .answer) ≡ ltb (r .dimension) ((a .receiver) .dimension))
       cases (yes z) =
-          subst (λ x. (takeNumber (x .answer) ≡ takeRefusal r row) × (takeRaised (x .answer) ≡ ltb (r .dimension) ((x .receiver) .dimension)))
+          subst (λ x. (takeNumber (x .answer) ≡ takeRefusal r row)
+          × (takeRaised (x .answer) ≡ ltb (r .dimension) ((x .receiver) .dimension)))
           (done _ _ _ z ∙ sym e) (unrefused-told grew ∙ sym z, raised-told grew)
       cases (no z) =
-          subst (λ x. (takeNumber (x .answer) ≡ takeRefusal r row) × (takeRaised (x .answer) ≡ ltb (r .dimension) ((x .receiver) .dimension)))
+          subst (λ x. (takeNumber (x .answer) ≡ takeRefusal r row)
+          × (takeRaised (x .answer) ≡ ltb (r .dimension) ((x .receiver) .dimension)))
           (kept _ _ _ z ∙ sym e) (refl, sym (le-ltb (r .dimension) _ (omega arith)))
 
 pub record CloseAccepted (r : Receiver) (t : ℕ) : Type 0 where

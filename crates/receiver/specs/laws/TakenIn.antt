@@ -55,7 +55,8 @@ module _ (r : Receiver) (size : length (r .entries) ≡ 256) (s : Sound r) where
 
   lent-rows : rowsOf (r .n) (r .dimension) (take (r .n * r .n) (r .entries)) ≡ heldRows r
   lent-rows =
-      ap (rowsOf (r .n) (r .dimension)) (sym (take-append-drop (r .dimension * r .n) lent) ∙ ap (λ (x : List ℕ). x ++ drop (r .dimension * r .n) lent) front)
+      ap (rowsOf (r .n) (r .dimension))
+      (sym (take-append-drop (r .dimension * r .n) lent) ∙ ap (λ (x : List ℕ). x ++ drop (r .dimension * r .n) lent) front)
       ∙ ap (λ d. rowsOf (r .n) d (join (heldRows r) ++ drop (r .dimension * r .n) lent)) (sym (held-length r size s))
       ∙ rows-joined (r .n) (drop (r .dimension * r .n) lent) (rows-sized (r .q) (r .n) (held-kept r size s .rows))
     where
@@ -65,20 +66,24 @@ module _ (r : Receiver) (size : length (r .entries) ≡ 256) (s : Sound r) where
   pub lent-kept : Kept (r .q) (r .n) (rowsOf (r .n) (r .dimension) (take (r .n * r .n) (r .entries)))
   lent-kept = subst (Kept (r .q) (r .n)) (sym lent-rows) (held-kept r size s)
 
-  pub lent-held : take (r .n * r .n) (r .entries) ≡ padded (r .n * r .n) (join (rowsOf (r .n) (r .dimension) (take (r .n * r .n) (r .entries))))
+  pub lent-held : take (r .n * r .n) (r .entries)
+      ≡ padded (r .n * r .n) (join (rowsOf (r .n) (r .dimension) (take (r .n * r .n) (r .entries))))
   unfolding padded
   lent-held =
       let used : ℕ = r .dimension * r .n in
       let more : used + (r .n * r .n - used) ≡ r .n * r .n = omega (arith, used-lent) in
       let left : r .n * r .n - used + (256 - r .n * r .n) ≡ 256 - used = omega (arith, used-lent, lent-fits) in
-      let held : length (join (heldRows r)) ≡ used = ap length (held-join r size s) ∙ length-take-le used (r .entries) (omega (arith, used-lent, lent-fits)) in
+      let held : length (join (heldRows r)) ≡ used =
+      ap length (held-join r size s) ∙ length-take-le used (r .entries) (omega (arith, used-lent, lent-fits)) in
       ap₂ (λ (x : ℕ) (y : List ℕ). take x y) (sym more ∙ ap (λ x. x + (r .n * r .n - used)) (sym held))
-      (sym (take-append-drop used (r .entries)) ∙ ap₂ (λ (x y : List ℕ). x ++ y) (sym (held-join r size s)) (rest-zero r size s used (omega arith)))
+      (sym (take-append-drop used (r .entries))
+      ∙ ap₂ (λ (x y : List ℕ). x ++ y) (sym (held-join r size s)) (rest-zero r size s used (omega arith)))
       ∙ take-append-add (join (heldRows r)) (replicate (256 - used) 0) (r .n * r .n - used)
       ∙ ap (λ (x : List ℕ). join (heldRows r) ++ x)
       (ap (λ x. take (r .n * r .n - used) (replicate x 0)) (sym left)
       ∙ ap (take (r .n * r .n - used)) (sym (replicate-append-replicate (r .n * r .n - used) (256 - r .n * r .n) 0))
-      ∙ take-at (replicate (r .n * r .n - used) 0) (replicate (256 - r .n * r .n) 0) (r .n * r .n - used) (length-replicate {A = ℕ} (r .n * r .n - used) 0))
+      ∙ take-at (replicate (r .n * r .n - used) 0) (replicate (256 - r .n * r .n) 0) (r .n * r .n - used)
+      (length-replicate {A = ℕ} (r .n * r .n - used) 0))
       ∙ ap (λ x. join (heldRows r) ++ replicate (r .n * r .n - x) 0) (sym held)
       ∙ ap (λ x. padded (r .n * r .n) (join x)) (sym lent-rows)
 
@@ -128,11 +133,13 @@ module _ (r : Receiver) (size : length (r .entries) ≡ 256) (s : Sound r) where
       entries : after ++ drop (r .n * r .n) (r .entries) ≡ padded 256 (join (reducedRows (r .q) (r .n) (heldRows r ++ (row ∷ []))))
       unfolding padded
       entries =
-          let more : r .n * r .n - length (join out) + (256 - r .n * r .n) ≡ 256 - length (join out) = omega (arith, out-size, out-fits, lent-fits) in
+          let more : r .n * r .n - length (join out) + (256 - r .n * r .n) ≡ 256 - length (join out) =
+          omega (arith, out-size, out-fits, lent-fits) in
           ap₂ (λ (x y : List ℕ). x ++ y) (bytes ∙ ap (λ x. padded (r .n * r .n) (join (insertRow (r .q) (r .n) x row))) lent-rows)
           (rest-zero r size s (r .n * r .n) used-lent)
           ∙ append-assoc (join out) (replicate (r .n * r .n - length (join out)) 0) (replicate (256 - r .n * r .n) 0)
-          ∙ ap (λ (x : List ℕ). join out ++ x) (replicate-append-replicate (r .n * r .n - length (join out)) (256 - r .n * r .n) 0 ∙ ap (λ x. replicate x 0) more)
+          ∙ ap (λ (x : List ℕ). join out ++ x)
+          (replicate-append-replicate (r .n * r .n - length (join out)) (256 - r .n * r .n) 0 ∙ ap (λ x. replicate x 0) more)
           ∙ ap (λ x. padded 256 (join x)) (sym new)
 
       taken-in : _≡_ {A = Taken} (record { receiver = left; answer = pick (ltb (r .dimension) d) Raised Held }) (takenIn r row)

@@ -1,15 +1,20 @@
--- `receiver::Receiver::well_formed`: the test of a receiver, part by part; no part of the meaning.
+-- `receiver::well_formed`: the test of a receiver, part by part; no part of the meaning.
 --   formed-settings, -dimension, -entries, -rest == a part that fails, after those before it
 --   formed-shape            == the last part, after all others
+--   made q n k d entries == the receiver of these settings, dimension and entries
 -- Assumes nothing.
 use mathlib.Core.Path.{_≡_}
 use mathlib.Core.Bool.{true, false}
-use Prim.Native.Nat.{_<_, _≤_}
+use mathlib.Core.List.{List}
+use Prim.Native.Nat.{ℕ, _<_, _≤_}
 use borrow.Author.Tests.{eq-eqb, ne-eqb, le-leb, lt-leb}
 use Rattle.settings.specs.Settings.{settingsRefusal}
 use Rattle.matrix.specs.Matrix.{entriesBelow, isReduced}
 use Rattle.receiver.specs.Receiver.{used, unused, wellFormed}
 use Rattle.receiver.specs.declared.Receiver.{Receiver}
+
+abbrev pub made : ℕ → ℕ → ℕ → ℕ → List ℕ → Receiver
+made q n k d entries = record { entries = entries; q = q; n = n; k = k; dimension = d }
 
 module _ (r : Receiver) where
   pub formed-settings : (settingsRefusal (r .q) (r .n) (r .k) ≡ 0 → ⊥) → false ≡ wellFormed r

@@ -45,7 +45,9 @@ returns-2 c =
     ∙ test-refused _ _ _ tt (sym (c .before .row-length-ok .ensures) ∙ not-true _ (c .if2 .taken)))
 
 -- the tests of q, n and the count of rows are passed
-begun : (c : tie.Else3) → let a = c .before .before .before .before .before .before .args in (isFieldSize (a .q) ≡ true) × (rowLengthOk (a .n) ≡ true)
+begun : (c : tie.Else3) →
+    let a = c .before .before .before .before .before .before .args in
+    (isFieldSize (a .q) ≡ true) × (rowLengthOk (a .n) ≡ true)
 begun c = (sized (c .before .before .before), long-enough (c .before))
 
 few : (c : tie.Else3) → c .before .before .before .before .before .before .args .row-count ≤ mostRows

@@ -19,8 +19,9 @@ returns c =
     let b = c .before .before .before .before in
     let a = b .args in
     let same =
-    full-same (a .q) (laws (a .q) (b .pre .0 .0)) (a .n) (a .d) (a .m .now) (b .pre .0 .1) (b .pre .0 .2) (a .row .now) (b .pre .0 .3)
-    (c .if1 .taken) in (
+    full-same (a .q) (laws (a .q) (b .pre .0 .0)) (a .n) (b .pre .0 .1) (rows-length (a .n) (a .d) (a .m .now) ∙ c .if1 .taken)
+    (a .row .now)
+    (b .pre .0 .3) in (
       sym (rows-length (a .n) (a .d) (a .m .now)) ∙ ap length same,
       (b .pre .0 .2 ∙ ap (λ x. padded (a .n * a .n) (join x)) same, b .pre .1 .1 ∙ ap (leads (a .n)) same),
     )

@@ -1,5 +1,5 @@
 -- `reduction::insert_residue` meets its contract: the row is in the span where its residue is zero, and else the residue is scaled and
--- placed.
+-- put among the rows.
 use mathlib.Core.Path.{_≡_, ap, sym, _∙_, subst}
 use mathlib.Core.List.{List, _++_}
 use Prim.Native.Nat.{ℕ, _+_, _*_, _-_, _<_}
@@ -10,10 +10,11 @@ use Rattle.linear.specs.Span.{All, Row, rowsOf}
 use Rattle.linear.specs.Eliminate.{leadOf, residue, monic}
 use Rattle.linear.specs.laws.FlatMatrix.{rows-length}
 use Rattle.linear.specs.laws.RowLead.{leadOf-le}
-use Rattle.reduction.specs.laws.Steps.{put, leads}
+use Rattle.rows.specs.laws.Steps.{put}
+use Rattle.reduction.specs.laws.Steps.{leads}
 use Rattle.reduction.specs.laws.Parts.{put-length}
 use Rattle.reduction.specs.laws.InsertResidue.{residue-is-row, monic-is-row, left-part, left-lead, insert-same, scaled-is}
-use Rattle.reduction.specs.laws.InsertResidue.{scaled-rows, scaled-part, scaled-lead, placed-result, one-more, insert-placed}
+use Rattle.reduction.specs.laws.InsertResidue.{scaled-rows, scaled-part, scaled-lead, among-result, one-more, insert-among}
 use borrow.Author.Needs.{needs}
 use Rattle.reduction.proofs.insert_residue.Statement.{statement}
 use Rattle.reduction.proofs.insert_residue.Tie as tie
@@ -123,8 +124,8 @@ scaled c =
     scaled-is (a .q) (laws (a .q) (b .pre .0 .0)) (a .n) (a .d) (a .m .now) (b .pre .0 .1) (b .pre .0 .2) (a .row .now) (b .pre .0 .3)
     (b .pre .1 .1) _ (r .residue .ensures) (a .d * a .n + a .n - a .d * a .n) (omega arith) _ (c .monic .ensures)
 
-place-requires : tie.Need-place-requires
-place-requires c κs =
+put-among-requires : tie.Need-put-among-requires
+put-among-requires c κs =
     let s = c .before .before .before .before in
     let f = s .before .before in
     let b = s .before .before .before .before .before .before .before .before .before .before .before .before .before in
@@ -178,9 +179,9 @@ returns-2 c =
       one-more (a .q) (laws (a .q) (b .pre .0 .0)) (a .n) (a .d) (a .m .now) (b .pre .0 .1) (b .pre .0 .2) (a .row .now) (b .pre .0 .3)
           (b .pre .1 .1) _ (scaled s) (nonzero f),
       (
-        insert-placed (a .q) (laws (a .q) (b .pre .0 .0)) (a .n) (a .d) (a .m .now) (b .pre .0 .1) (b .pre .0 .2) (a .row .now)
-            (b .pre .0 .3) (b .pre .1 .1) _ (scaled s) (nonzero f) _ (p .place .ensures .0),
-        p .place .ensures .1 ∙ ap (leads (a .n)) (placed-result (a .q) (laws (a .q) (b .pre .0 .0)) (a .n) (a .d) (a .m .now)
+        insert-among (a .q) (laws (a .q) (b .pre .0 .0)) (a .n) (a .d) (a .m .now) (b .pre .0 .1) (b .pre .0 .2) (a .row .now)
+            (b .pre .0 .3) (b .pre .1 .1) _ (scaled s) (nonzero f) _ (p .put-among .ensures .0),
+        p .put-among .ensures .1 ∙ ap (leads (a .n)) (among-result (a .q) (laws (a .q) (b .pre .0 .0)) (a .n) (a .d) (a .m .now)
             (b .pre .0 .1) (b .pre .0 .2) (a .row .now) (b .pre .0 .3) (b .pre .1 .1) _ (scaled s) (nonzero f)),
       ),
     )
@@ -200,7 +201,7 @@ insert-residue-spec =
     part-monic-start
     part-monic-end
     monic-requires
-    place-requires
+    put-among-requires
     add-result
     same-length-3
     same-length-4

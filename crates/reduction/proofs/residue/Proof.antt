@@ -12,7 +12,8 @@ use Rattle.field.specs.laws.Decide.{laws}
 use Rattle.linear.specs.Eliminate.{leadOf, residue}
 use Rattle.linear.specs.laws.InsertMany.{Kept}
 use Rattle.linear.specs.Span.{rowsOf}
-use Rattle.reduction.specs.laws.Steps.{part, put, leads}
+use Rattle.rows.specs.laws.Steps.{part, put}
+use Rattle.reduction.specs.laws.Steps.{leads}
 use Rattle.reduction.specs.laws.Parts.{lead-read, pasted}
 use Rattle.reduction.specs.laws.Leads.{lead-inside}
 use Rattle.reduction.specs.laws.Residue.{Eliminating, eliminating-none, eliminating-start, first-row, started-rows, started-fits}

@@ -18,8 +18,9 @@ use Rattle.basics.specs.laws.Flat.{row-fits}
 use Rattle.linear.specs.Span.{rowsOf}
 use Rattle.linear.specs.Eliminate.{leadOf, eliminate, join}
 use Rattle.linear.specs.laws.FlatRows.{rowsFrom, rows-all, rows-next, rows-none, drop-next}
-use Rattle.reduction.specs.laws.Steps.{part, put, above, cleared}
-use Rattle.reduction.specs.laws.Place.{eliminate-length}
+use Rattle.rows.specs.laws.Steps.{part, put}
+use Rattle.reduction.specs.laws.Steps.{above, cleared}
+use Rattle.reduction.specs.laws.PutAmong.{eliminate-length}
 
 module _ (q n : ℕ) (w : List ℕ) where
   cleared-above : (r : List ℕ) (rs : List (List ℕ)) → leadOf n r < leadOf n w

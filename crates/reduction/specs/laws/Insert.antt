@@ -1,6 +1,5 @@
 -- Reduced rows that a flat matrix of room for n rows holds, with zeros after them; no part of the meaning.
 --   padded-length, drop-padded == the length of padded bytes, and the zeros at their end
---   padded-held    == after `reduce` the rows held are those of the reduced matrix
 --   held-fits      == the rows held fit
 --   held-length, held-zeros == the length, and the zeros after the rows
 --   full-same      == a row taken into n rows changes nothing
@@ -17,16 +16,15 @@ use lib.Seq.{drop-append-add}
 use Rattle.basics.specs.laws.Flat.{row-fits}
 use Rattle.basics.specs.laws.Replicate.{drop-replicate}
 use Rattle.field.specs.FieldLaws.{Laws}
-use Rattle.linear.specs.Span.{All, Row, rowsOf}
-use Rattle.linear.specs.Eliminate.{leadOf, join, residue, monic, insertRow, reducedRows, reducedOf, dimension}
+use Rattle.linear.specs.Span.{Row, rowsOf}
+use Rattle.linear.specs.Eliminate.{leadOf, join, residue, monic, insertRow}
 use Rattle.linear.specs.laws.FlatMatrix.{rows-length, join-length}
-use Rattle.linear.specs.laws.FlatRows.{rows-joined}
 use Rattle.linear.specs.laws.InsertSteps.{insertRow-zero, insertRow-other}
 use Rattle.linear.specs.laws.InsertMany.{Kept, insert-kept}
-use Rattle.linear.specs.laws.ReducedOf.{reducedRows-kept, reduced-le}
+use Rattle.linear.specs.laws.ReducedOf.{reduced-le}
 use Rattle.linear.specs.laws.ReducedRows.{rows-sized}
 use Rattle.reduction.specs.Padded.{padded}
-use Rattle.reduction.specs.laws.Place.{place-length}
+use Rattle.reduction.specs.laws.PutAmong.{putAmong-length}
 
 pub padded-length : (size : ℕ) (l : List ℕ) → length l ≤ size → length (padded size l) ≡ size
 unfolding padded
@@ -40,11 +38,27 @@ drop-padded size k l h =
     ap (λ x. drop x (padded size l)) (sym e) ∙ drop-append-add l (replicate (size - length l) 0) (k - length l)
     ∙ drop-replicate (k - length l) (size - length l) 0 ∙ ap (λ x. replicate x 0) left
 
-pub padded-held : (q : ℕ) (laws : Laws q) (n : ℕ) (rows : List (List ℕ)) → All (Row q n) rows → (size : ℕ)
-    → rowsOf n (dimension q n rows) (padded size (reducedOf q n rows)) ≡ reducedRows q n rows
-unfolding dimension reducedOf padded
-padded-held q laws n rows h size =
-    rows-joined n (replicate (size - length (join (reducedRows q n rows))) 0) (rows-sized q n (reducedRows-kept q laws n rows h .rows))
+pub full-same : (q : ℕ) (laws : Laws q) (n : ℕ) {rs : List (List ℕ)} → Kept q n rs → length rs ≡ n → (v : List ℕ) → Row q n v
+    → rs ≡ insertRow q n rs v
+full-same q laws n {rs} kept full v hv = cases (ℕ-discrete (leadOf n left) n)
+  where
+    left : List ℕ
+    left = residue q n rs v
+
+    result : List (List ℕ)
+    result = insertRow q n rs v
+
+    cases : Dec (leadOf n left ≡ n) → rs ≡ result
+    cases (yes e) = sym (insertRow-zero q n rs v e)
+    cases (no ne) =
+        absurd
+        (omega (
+          arith,
+          full,
+          reduced-le q n (length result) (join result) (insert-kept q laws n rs kept v hv .reduced),
+          ap length (insertRow-other q n rs v ne),
+          putAmong-length q n (monic q n left) rs,
+        ))
 
 module _ (q : ℕ) (laws : Laws q) (n d : ℕ) (m : List ℕ) (kept : Kept q n (rowsOf n d m)) (held : m ≡ padded (n * n) (join (rowsOf n d m)))
   where
@@ -62,31 +76,6 @@ module _ (q : ℕ) (laws : Laws q) (n d : ℕ) (m : List ℕ) (kept : Kept q n (
 
     pub held-zeros : (k : ℕ) → d * n ≤ k → drop k m ≡ replicate (n * n - k) 0
     held-zeros k h = ap (drop k) held ∙ drop-padded (n * n) k (join (rowsOf n d m)) (omega (arith, rows-bytes))
-
-    module _ (v : List ℕ) (hv : Row q n v) where
-      pub full-same : d ≡ n → rowsOf n d m ≡ insertRow q n (rowsOf n d m) v
-      full-same full = cases (ℕ-discrete (leadOf n left) n)
-        where
-          left : List ℕ
-          left = residue q n (rowsOf n d m) v
-
-          result : List (List ℕ)
-          result = insertRow q n (rowsOf n d m) v
-
-          cases : Dec (leadOf n left ≡ n) → rowsOf n d m ≡ result
-          cases (yes e) = sym (insertRow-zero q n (rowsOf n d m) v e)
-          cases (no ne) =
-              absurd
-              (omega (
-                arith,
-                full,
-                rows-length n d m,
-                reduced-le q n (length result) (join result)
-                    (insert-kept q laws n (rowsOf n d m) kept v hv .reduced),
-                ap length (insertRow-other q n (rowsOf n d m) v ne),
-                place-length q n
-                    (monic q n left) (rowsOf n d m),
-              ))
 
     module _ (room : d < n) where
       pub row-room : d * n + n ≤ length m

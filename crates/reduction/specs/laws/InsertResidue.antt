@@ -4,7 +4,7 @@
 --   scaled-is     == what dividing it by its first entry leaves
 --   insert-same   == where the residue is zero the rows stay, with zeros after them
 --   scaled-rows, scaled-part, scaled-lead == the rows and row d once the residue is scaled
---   insert-placed == where the residue is not zero, it is put among the rows, scaled
+--   insert-among == where the residue is not zero, it is put among the rows, scaled
 -- Assumes nothing.
 use mathlib.Core.Path.{_≡_, ap, ap₂, sym, _∙_}
 use mathlib.Core.List.{List, _++_}
@@ -15,7 +15,7 @@ use lib.Seq.{drop-drop, ext-getD}
 use Rattle.field.specs.FieldLaws.{Laws}
 use Rattle.matrix.specs.Matrix.{lead}
 use Rattle.linear.specs.Span.{Row, rowsOf}
-use Rattle.linear.specs.Eliminate.{leadOf, residue, monic, place, insertRow, join}
+use Rattle.linear.specs.Eliminate.{leadOf, residue, monic, putAmong, insertRow, join}
 use Rattle.linear.specs.laws.Elimination.{monic-row}
 use Rattle.linear.specs.laws.FlatMatrix.{rows-length, join-length}
 use Rattle.linear.specs.laws.FlatRows.{lead-part, join-taken}
@@ -26,8 +26,8 @@ use Rattle.linear.specs.laws.ReducedRows.{rows-sized}
 use Rattle.linear.specs.laws.RowLead.{leadOf-le}
 use Rattle.reduction.specs.Padded.{padded}
 use Rattle.reduction.specs.laws.Parts.{part-put, rows-put, after-put, put-put}
-use Rattle.reduction.specs.laws.Place.{place-length}
-use Rattle.reduction.specs.laws.Steps.{part, put}
+use Rattle.reduction.specs.laws.PutAmong.{putAmong-length}
+use Rattle.rows.specs.laws.Steps.{part, put}
 
 zero-row : (q n : ℕ) (v : List ℕ) → Row q n v → leadOf n v ≡ n → v ≡ replicate n 0
 unfolding leadOf
@@ -99,19 +99,19 @@ module _ (q : ℕ) (laws : Laws q) (n d : ℕ) (m : List ℕ) (fits : d * n + n 
           (ap (leadOf n) scaled-part
           ∙ monic-lead q laws n left residue-is-row (omega (arith, leadOf-le q laws n left, nonzero)))
 
-      pub placed-result : place q n (rowsOf n d now) (part n (d * n) now) ≡ result
-      placed-result = ap₂ (place q n) scaled-rows scaled-part ∙ sym (insertRow-other q n rows v nonzero)
+      pub among-result : putAmong q n (rowsOf n d now) (part n (d * n) now) ≡ result
+      among-result = ap₂ (putAmong q n) scaled-rows scaled-part ∙ sym (insertRow-other q n rows v nonzero)
 
       pub one-more : d + 1 ≡ length result
       one-more =
           omega
-          (arith, ap length (insertRow-other q n rows v nonzero), place-length q n (monic q n left) rows, rows-length n d m)
+          (arith, ap length (insertRow-other q n rows v nonzero), putAmong-length q n (monic q n left) rows, rows-length n d m)
 
-      pub insert-placed : (after : List ℕ) → after ≡ join (place q n (rowsOf n d now) (part n (d * n) now)) ++ drop (d * n + n) now
+      pub insert-among : (after : List ℕ) → after ≡ join (putAmong q n (rowsOf n d now) (part n (d * n) now)) ++ drop (d * n + n) now
           → after ≡ padded (length m) (join result)
       unfolding padded
-      insert-placed after e =
-          e ∙ ap₂ (λ x y. join x ++ y) placed-result
+      insert-among after e =
+          e ∙ ap₂ (λ x y. join x ++ y) among-result
           (ap (drop (d * n + n)) is ∙ after-put n (d * n) (monic q n left) m (monic-is-row .0) fits (d * n + n) (omega arith) ∙ zeros)
           ∙ ap (λ x. join result ++ replicate x 0) size
         where

@@ -2,7 +2,7 @@
 --   lead-inside   == every reduced row has a lead
 --   lead-cleared  == clearing a later column in a row leaves its lead
 --   leads-known   == the pivots of a matrix, as a list, are the leads of its rows
---   leads-placed  == w's lead stands among those of the rows as w stands among the rows
+--   leads-among  == w's lead stands among those of the rows as w stands among the rows
 --   raised-leads  == what `raise` makes of a list of leads with one more
 -- Assumes nothing.
 use mathlib.Core.Path.{_≡_, refl, ap, ap₂, sym, _∙_, subst}
@@ -22,14 +22,15 @@ use Rattle.linear.specs.laws.ReducedRows.{rows-sized}
 use Rattle.linear.specs.laws.FlatMatrix.{rows-length, join-pivot}
 use Rattle.linear.specs.Span.{All, none, more, Row, rowsOf}
 use Rattle.linear.specs.laws.FlatRows.{rows-at, rows-last, lead-part}
-use Rattle.linear.specs.Eliminate.{leadOf, eliminate, place, join}
+use Rattle.linear.specs.Eliminate.{leadOf, eliminate, putAmong, join}
 use Rattle.linear.specs.laws.Element.{scalars}
 use Rattle.linear.specs.laws.Elimination.{eliminate-row, eliminate-takes}
 use Rattle.linear.specs.laws.Entries.{at, zero-at, at-zero}
 use Rattle.linear.specs.laws.Lead.{lead-unique}
 use Rattle.linear.specs.laws.Residual.{takenOff-kept}
 use Rattle.linear.specs.laws.RowLead.{leadOf-le, at-before, at-lead-nonzero}
-use Rattle.reduction.specs.laws.Steps.{part, leads, above, raised}
+use Rattle.rows.specs.laws.Steps.{part, raised}
+use Rattle.reduction.specs.laws.Steps.{leads, above}
 
 leads-append : (n : ℕ) (rs : List (List ℕ)) (r : List ℕ) → leads n (rs ++ (r ∷ [])) ≡ leads n rs ++ (leadOf n r ∷ [])
 unfolding leads
@@ -60,21 +61,21 @@ module _ (q : ℕ) (laws : Laws q) (n : ℕ) (w : List ℕ) (hw : Row q n w) whe
         (λ j b. zero-at q laws n (eliminate-row q laws n w r hw hr) j (cleared-at j (omega arith) ∙ at-before q laws n r j b))
         (λ b z. at-lead-nonzero q laws n r hr b (sym (cleared-at (leadOf n r) h) ∙ at-zero q laws n (eliminate q n w r) (leadOf n r) z))
 
-  pub leads-placed : {rs : List (List ℕ)} → All (Row q n) rs
-      → leads n (place q n rs w) ≡ take (above n rs w) (leads n rs) ++ (leadOf n w ∷ drop (above n rs w) (leads n rs))
-  unfolding leads place above
-  leads-placed none = refl
-  leads-placed (more {x = r} {xs = rs} h hs) = cases (le-or-lt (leadOf n w) (leadOf n r)) (leads-placed hs)
+  pub leads-among : {rs : List (List ℕ)} → All (Row q n) rs
+      → leads n (putAmong q n rs w) ≡ take (above n rs w) (leads n rs) ++ (leadOf n w ∷ drop (above n rs w) (leads n rs))
+  unfolding leads putAmong above
+  leads-among none = refl
+  leads-among (more {x = r} {xs = rs} h hs) = cases (le-or-lt (leadOf n w) (leadOf n r)) (leads-among hs)
     where
       cases : (leadOf n w ≤ leadOf n r) ⊎ (leadOf n r < leadOf n w)
-          → leads n (place q n rs w) ≡ take (above n rs w) (leads n rs) ++ (leadOf n w ∷ drop (above n rs w) (leads n rs))
-          → leads n (place q n (r ∷ rs) w) ≡ take (above n (r ∷ rs) w) (leads n (r ∷ rs))
+          → leads n (putAmong q n rs w) ≡ take (above n rs w) (leads n rs) ++ (leadOf n w ∷ drop (above n rs w) (leads n rs))
+          → leads n (putAmong q n (r ∷ rs) w) ≡ take (above n (r ∷ rs) w) (leads n (r ∷ rs))
           ++ (leadOf n w ∷ drop (above n (r ∷ rs) w) (leads n (r ∷ rs)))
       cases (inl l) e = rw (le-ltb (leadOf n r) (leadOf n w) l) refl
       cases (inr l) e =
           rw (lt-ltb (leadOf n r) (leadOf n w) l) (ap₂ (λ (x : ℕ) (y : List ℕ). x ∷ y) (lead-cleared r h l) e)
 
--- p after d leads, raised to place `at`
+-- p after d leads, raised to `at`
 pub raised-leads : (d at p : ℕ) (pivots : List ℕ) → at ≤ d → d < length pivots
     → take (d + 1) (raised 1 (d * 1) (at * 1) (set pivots d p)) ≡ take at (take d pivots) ++ (p ∷ drop at (take d pivots))
 raised-leads d at p pivots h room =

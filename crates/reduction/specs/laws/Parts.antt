@@ -19,7 +19,8 @@ use Rattle.linear.specs.Span.{rowsOf}
 use Rattle.linear.specs.Eliminate.{leadOf}
 use Rattle.linear.specs.laws.FlatMatrix.{rows-length}
 use Rattle.linear.specs.laws.FlatRows.{rows-at}
-use Rattle.reduction.specs.laws.Steps.{part, put, leads}
+use Rattle.rows.specs.laws.Steps.{part, put}
+use Rattle.reduction.specs.laws.Steps.{leads}
 
 pub part-front : (n at : ℕ) (front rest : List ℕ) → at + n ≤ length front → part n at (front ++ rest) ≡ part n at front
 part-front n at front rest h =

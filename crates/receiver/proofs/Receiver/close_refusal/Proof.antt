@@ -9,8 +9,11 @@ use borrow.Author.Needs.{needs}
 use Rattle.receiver.proofs.Receiver.close_refusal.Statement.{statement}
 use Rattle.receiver.proofs.Receiver.close_refusal.Tie as tie
 
-formed : (c : tie.Else1) → wellFormed (c .before .before .before .args .self) ≡ true
+formed : (c : tie.Else1) → wellFormed (c .before .before .before .before .before .args .self) ≡ true
 formed c = sym (c .before .before .well-formed .ensures .0) ∙ not-false _ (c .if1 .left)
+
+slice-aggregate-well-formed : tie.Need-slice-aggregate-well-formed
+slice-aggregate-well-formed c = search needs
 
 well-formed-requires : tie.Need-well-formed-requires
 well-formed-requires c κs = search needs
@@ -39,4 +42,4 @@ returns-3 c =
     )
 
 pub close-refusal-spec : {M : Type 1} → statement M
-close-refusal-spec = tie.close (tie.spec well-formed-requires returns is-numbering-requires returns-2 returns-3)
+close-refusal-spec = tie.close (tie.spec slice-aggregate-well-formed well-formed-requires returns is-numbering-requires returns-2 returns-3)

@@ -9,8 +9,11 @@ use borrow.Author.Needs.{needs}
 use Rattle.receiver.proofs.Receiver.take_refusal.Statement.{statement}
 use Rattle.receiver.proofs.Receiver.take_refusal.Tie as tie
 
-formed : (c : tie.Else1) → wellFormed (c .before .before .before .before .args .self) ≡ true
+formed : (c : tie.Else1) → wellFormed (c .before .before .before .before .before .before .args .self) ≡ true
 formed c = sym (c .before .before .well-formed .ensures .0) ∙ not-false _ (c .if1 .left)
+
+slice-aggregate-well-formed : tie.Need-slice-aggregate-well-formed
+slice-aggregate-well-formed c = search needs
 
 well-formed-requires : tie.Need-well-formed-requires
 well-formed-requires c κs = search needs
@@ -44,11 +47,12 @@ returns-3 c =
 returns-4 : tie.Need-returns-4
 returns-4 c =
     let b = c .before .before in (
-      sym (take-unrefused _ _ (formed (b .before .before)) (b .if2 .left) (sym (c .before .entries-below .ensures) ∙ not-false _ (c .if3 .left))),
+      sym (take-unrefused _ _ (formed (b .before .before)) (b .if2 .left)
+          (sym (c .before .entries-below .ensures) ∙ not-false _ (c .if3 .left))),
       b .before .before .before .before .well-formed .ensures .1,
     )
 
 pub take-refusal-spec : {M : Type 1} → statement M
 take-refusal-spec =
     tie.close
-    (tie.spec well-formed-requires returns returns-2 entries-below-requires returns-3 returns-4)
+    (tie.spec slice-aggregate-well-formed well-formed-requires returns returns-2 entries-below-requires returns-3 returns-4)
