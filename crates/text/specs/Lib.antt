@@ -3,6 +3,5 @@ pub mod Text
 pub mod Rows
 pub mod Word
 pub mod Piece
-pub mod Writer
 pub mod Theorems
 pub mod laws

@@ -1,5 +1,4 @@
-// Text as bytes: decimal numerals, and a writer of pieces of text.
+// Text as bytes: decimal numerals, words and rows, put into a lent buffer.
 pub mod append;
 pub mod rows;
 pub mod word;
-pub mod writer;

@@ -16,7 +16,8 @@ use Rattle.text.specs.Text.{comma, lineFeed, numeral}
 use Rattle.text.specs.Piece.{joined}
 use Rattle.text.specs.Rows.{DigitRows, rowsText}
 use Rattle.text.specs.laws.Rows.{size-bound, rowsText-front}
-use Rattle.listing.specs.Line.{lineText, linePieces}
+use Rattle.line.specs.Line.{linePieces}
+use Rattle.listing.specs.Line.{lineText}
 use Rattle.listing.specs.Listing.{listingLine}
 use Rattle.listing.specs.laws.Line.{drawn-is-reduced, digit-rows, line-short}
 use Rattle.listing.specs.laws.Front.{composed-line}
