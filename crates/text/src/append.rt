@@ -10,14 +10,10 @@ ghost use Rattle.text.specs.Word.{letters};
 use crate::word;
 use crate::word::Word;
 
-// The bytes of the digit 0, the comma, the slash and the line feed.
+// The bytes of the digit 0 and the slash.
 pub const ZERO: u8 = 48;
 
-pub const COMMA: u8 = 44;
-
 pub const SLASH: u8 = 47;
-
-pub const LINE_FEED: u8 = 10;
 
 // How far the buffer is filled after a piece, and whether the piece fitted.
 pub struct Put {

@@ -3,6 +3,7 @@
 --     lend     the local's cell, what the writer owns and a token of κ  ⊢ ⇛  what the callee asks, and what is kept meanwhile
 --     back     what the callee gives, and what was kept  ⊢ ⇛  the cell, what the writer owns and the token, at the writer with the piece
 --              put in
+--     gave-of  what a callee gives, of what its `ensures` says of the last writer
 --     calls-lent    both, around the call: a step of `Types/Kit.antt`'s calculus
 --     calls-thin, calls-mark    the same of a function that takes a value, and of one whose byte is a literal of its code
 -- Assumes `Given`.
@@ -18,9 +19,9 @@ use mir.Val.{Val, vbool, vptr}
 use base.Logic.{SProp, ent, sep, wand, ex, emp, id⊢}
 use base.Fml.{Lft, Share, GName, Incl, ftrue, fsep, fat, flft, fdead, fres, flent}
 use prog.Wp.{Heap, Env, Calls, Loops}
-use ghost.Atoms.{Atoms}
+use ghost.Atoms.{Atoms, sem}
 use contract.Monad.{fact}
-use types.Kit.{Given, Item, Post, Seq, runs, lands, ‵, raw, some, later, _⊛_, ⋆, _$_, _∵_, !, qed, move, keep, drop, use0, use1, use2, use3}
+use types.Kit.{Given, Item, Post, Seq, runs, lands, ‵, raw, mean, some, later, _⊛_, ⋆, _$_, _∵_, !, qed, move, keep, drop, use0, use1, use2, use3}
 use types.Kit.{split, join, pick, rewrite, fsplit, fjoin, fpick, fpack, apply, frame, await, updating, now as at-once, show, done}
 use types.Run.{Opds}
 use types.SemTy.{Body}
@@ -92,6 +93,25 @@ module _ {M : Type 1} (𝓤 : URA M) (H : Heap 𝓤) (A : Atoms 𝓤) (W : Given
 
     abbrev Given-back : ℕ → GName → Val → SProp 𝓤
     Given-back ν γ u = sep 𝓤 (⋆ 𝓤 H A (‵ (flft (ν ∷ κ) qₗ) ∷ ‵ (flft κ qᵣ) ∷ ‵ (fres γ (R .coded .code h′)) ∷ [])) (fact 𝓤 (Answered u))
+
+    -- what a callee's `ensures` says of the last writer, for its answer
+    abbrev Told : GName → Bool → SProp 𝓤
+    Told γ r = ex 𝓤 (λ (z : Writer). sep 𝓤 (sem 𝓤 H A (fres γ (R .coded .code z))) (fact 𝓤 (Wrote h piece r z)))
+
+    gave-of : (ν : ℕ) (γ : GName) (u : Val) (Says : Bool → SProp 𝓤) → ((r : Bool) → ent 𝓤 (Says r) (Told γ r))
+        → ent 𝓤 (mean 𝓤 H A (later (some (λ (r : Bool).
+        ((‵ (flft (ν ∷ κ) qₗ) ⊛ ‵ (flft κ qᵣ) ⊛ ‵ ftrue) ⊛ ‵ (bool .own r (u ∷ []))) ⊛ raw (Says r))))) (H .⇛ (Given-back ν γ u))
+    gave-of ν γ u Says told =
+        qed W (later (some (λ (r : Bool).
+        ((‵ (flft (ν ∷ κ) qₗ) ⊛ ‵ (flft κ qᵣ) ⊛ ‵ ftrue) ⊛ ‵ (bool .own r (u ∷ []))) ⊛ raw (Says r))) ∷ []) ∵ updating ! $ await ! tt $
+        pick ! (λ r. split ! $ move ! (1 ∷ []) $
+        use1 W (some (λ (z : Writer). ‵ (fres γ (R .coded .code z)) ⊛ raw (fact 𝓤 (Wrote h piece r z)))) (told r) $ pick ! (λ z.
+        split ! $ move ! (1 ∷ []) $ heard ! (Wrote h piece r z) (λ e.
+        rewrite ! 0 (λ (z : Writer). ‵ (fres γ (R .coded .code z))) (e .1) refl $
+        -- [the last writer; the tokens and the answer]
+        move ! (1 ∷ []) $ split ! $ move ! (1 ∷ []) $ peeks ! bool (Is bool) (shows 𝓤 H A bool) r (u ∷ []) (λ is. drop ! $
+        split ! $ move ! (1 ∷ []) $ split ! $ move ! (2 ∷ 0 ∷ 3 ∷ []) $
+        at-once ! $ says ! (ap only is ∙ ap vbool (e .0)) $ keep ! (0 ∷ 1 ∷ 2 ∷ []) $ done !))))
 
     -- what is kept meanwhile
     abbrev Kept : ℕ → GName → SProp 𝓤
@@ -185,21 +205,13 @@ module _ {M : Type 1} (𝓤 : URA M) (H : Heap 𝓤) (A : Atoms 𝓤) (W : Given
           use0 W (raw (asked v)) ask $ move ! (1 ∷ 0 ∷ []) $ done !
 
       thin-gave : (ν : ℕ) (γ : GName) (u : Val) → ent 𝓤 (Thin .post (thin-to ν γ) u) (H .⇛ (Given-back l h (piece v) ν γ u))
-      thin-gave ν γ u =
-          qed W (raw (Thin .post (thin-to ν γ) u) ∷ []) ∵ updating ! $
-          use1 W (later (some (λ (r : Bool). ((‵ (flft (ν ∷ κ) qₗ) ⊛ ‵ (flft κ qᵣ) ⊛ ‵ ftrue) ⊛ ‵ (bool .own r (u ∷ [])))
-          ⊛ raw (ensured 𝓤 H A (writes X piece) (writing X piece 𝓤 asked) (lifetimes ν) (thin-passed γ) tt r)))) (id⊢ 𝓤 _) $ await ! tt $
-          pick ! (λ r.
-          split ! $ move ! (1 ∷ []) $
+      thin-gave ν γ u = gave-of l h (piece v) ν γ u (ensured 𝓤 H A (writes X piece) (writing X piece 𝓤 asked) (lifetimes ν) (thin-passed γ) tt) (λ r.
+          qed W (raw (ensured 𝓤 H A (writes X piece) (writing X piece 𝓤 asked) (lifetimes ν) (thin-passed γ) tt r) ∷ []) ∵
           use1 W (some (λ (zs : Lasts (writes X piece) (lifetimes ν) (thin-passed γ)).
           ‵ (lasts (writes X piece) (lifetimes ν) (thin-passed γ) zs) ⊛ raw (fact 𝓤 (Wrote h (piece v) r (zs .0))))) (id⊢ 𝓤 _) $
-          pick ! (λ zs.
-          split ! $ move ! (1 ∷ []) $ heard ! (Wrote h (piece v) r (zs .0)) (λ e. fsplit ! $
-          rewrite ! 0 (λ (z : Writer). ‵ (fres γ (R .coded .code z))) (e .1) refl $
-          -- [the last writer; …; the tokens and the answer]
-          move ! (2 ∷ []) $ split ! $ move ! (1 ∷ []) $ peeks ! bool (Is bool) (shows 𝓤 H A bool) r (u ∷ []) (λ is. drop ! $
-          split ! $ move ! (1 ∷ []) $ split ! $ move ! (2 ∷ 0 ∷ 3 ∷ []) $
-          at-once ! $ says ! (ap only is ∙ ap vbool (e .0)) $ keep ! (0 ∷ 1 ∷ 2 ∷ []) $ done !))))
+          pick ! (λ zs. split ! $ fsplit ! $ move ! (0 ∷ 2 ∷ []) $
+          show ! (λ (z : Writer). sep 𝓤 (sem 𝓤 H A (fres γ (R .coded .code z))) (fact 𝓤 (Wrote h (piece v) r z))) (zs .0) $
+          keep ! (0 ∷ 1 ∷ []) $ done !))
 
       pub calls-thin : {K : Type 0} {Γ : List (Item 𝓤)} {E : Env 𝓤 H} {C : Calls 𝓤 H} {f : Name} {xs : List Opd} {Λ : Loops 𝓤 H}
           {p : Post 𝓤 H}
@@ -230,20 +242,13 @@ module _ {M : Type 1} (𝓤 : URA M) (H : Heap 𝓤) (A : Atoms 𝓤) (W : Given
             nothing ! $ move ! (3 ∷ 0 ∷ []) $ join ! $ move ! (2 ∷ 0 ∷ []) $ join ! $ join ! $ frame ! $ done !
 
         mark-gave : (ν : ℕ) (γ : GName) (u : Val) → ent 𝓤 (Mark .post (mark-to ν γ) u) (H .⇛ (Given-back l h (piece v) ν γ u))
-        mark-gave ν γ u =
-            qed W (raw (Mark .post (mark-to ν γ) u) ∷ []) ∵ updating ! $
-            use1 W (later (some (λ (r : Bool). ((‵ (flft (ν ∷ κ) qₗ) ⊛ ‵ (flft κ qᵣ) ⊛ ‵ ftrue) ⊛ ‵ (bool .own r (u ∷ [])))
-            ⊛ raw (ensured 𝓤 H A (marks X piece) (marking X piece 𝓤 v) (lifetimes ν) (mark-passed γ) tt r)))) (id⊢ 𝓤 _) $ await ! tt $
-            pick ! (λ r.
-            split ! $ move ! (1 ∷ []) $
+        mark-gave ν γ u = gave-of l h (piece v) ν γ u (ensured 𝓤 H A (marks X piece) (marking X piece 𝓤 v) (lifetimes ν) (mark-passed γ) tt) (λ r.
+            qed W (raw (ensured 𝓤 H A (marks X piece) (marking X piece 𝓤 v) (lifetimes ν) (mark-passed γ) tt r) ∷ []) ∵
             use1 W (some (λ (zs : Lasts (marks X piece) (lifetimes ν) (mark-passed γ)).
             ‵ (lasts (marks X piece) (lifetimes ν) (mark-passed γ) zs) ⊛ raw (fact 𝓤 (Wrote h (piece v) r (zs .0))))) (id⊢ 𝓤 _) $
-            pick ! (λ zs.
-            split ! $ move ! (1 ∷ []) $ heard ! (Wrote h (piece v) r (zs .0)) (λ e. fsplit ! $
-            rewrite ! 0 (λ (z : Writer). ‵ (fres γ (R .coded .code z))) (e .1) refl $
-            move ! (2 ∷ []) $ split ! $ move ! (1 ∷ []) $ peeks ! bool (Is bool) (shows 𝓤 H A bool) r (u ∷ []) (λ is. drop ! $
-            split ! $ move ! (1 ∷ []) $ split ! $ move ! (2 ∷ 0 ∷ 3 ∷ []) $
-            at-once ! $ says ! (ap only is ∙ ap vbool (e .0)) $ keep ! (0 ∷ 1 ∷ 2 ∷ []) $ done !))))
+            pick ! (λ zs. split ! $ fsplit ! $ move ! (0 ∷ 2 ∷ []) $
+            show ! (λ (z : Writer). sep 𝓤 (sem 𝓤 H A (fres γ (R .coded .code z))) (fact 𝓤 (Wrote h (piece v) r z))) (zs .0) $
+            keep ! (0 ∷ 1 ∷ []) $ done !))
 
         pub calls-mark : {K : Type 0} {Γ : List (Item 𝓤)} {E : Env 𝓤 H} {C : Calls 𝓤 H} {f : Name} {xs : List Opd} {Λ : Loops 𝓤 H}
             {p : Post 𝓤 H}

@@ -12,6 +12,11 @@ use text::rows;
 use text::rows::Rows;
 use text::word::Word;
 
+// The bytes of the comma and the line feed.
+const COMMA: u8 = 44;
+
+const LINE_FEED: u8 = 10;
+
 pub struct Writer<'a> {
     pub buffer: &'a mut [u8],
     pub at: usize,
@@ -49,8 +54,9 @@ pub fn digit<'s, 'a>(w: &'s mut Writer<'a>, d: u8) -> bool
 pub fn comma<'s, 'a>(w: &'s mut Writer<'a>) -> bool
     ensures { λ r. ⌜ Wrote (now (w .entry)) (commaByte ∷ []) r (now (w .exit)) ⌝ }
 {
+    let byte = COMMA;
     let at = w.at;
-    let put = append::append_byte(&mut *w.buffer, at, append::COMMA);
+    let put = append::append_byte(&mut *w.buffer, at, byte);
     w.at = put.at;
     put.fits
 }
@@ -59,8 +65,9 @@ pub fn comma<'s, 'a>(w: &'s mut Writer<'a>) -> bool
 pub fn slash<'s, 'a>(w: &'s mut Writer<'a>) -> bool
     ensures { λ r. ⌜ Wrote (now (w .entry)) (slashByte ∷ []) r (now (w .exit)) ⌝ }
 {
+    let byte = append::SLASH;
     let at = w.at;
-    let put = append::append_byte(&mut *w.buffer, at, append::SLASH);
+    let put = append::append_byte(&mut *w.buffer, at, byte);
     w.at = put.at;
     put.fits
 }
@@ -69,8 +76,9 @@ pub fn slash<'s, 'a>(w: &'s mut Writer<'a>) -> bool
 pub fn line_feed<'s, 'a>(w: &'s mut Writer<'a>) -> bool
     ensures { λ r. ⌜ Wrote (now (w .entry)) (lineFeed ∷ []) r (now (w .exit)) ⌝ }
 {
+    let byte = LINE_FEED;
     let at = w.at;
-    let put = append::append_byte(&mut *w.buffer, at, append::LINE_FEED);
+    let put = append::append_byte(&mut *w.buffer, at, byte);
     w.at = put.at;
     put.fits
 }
