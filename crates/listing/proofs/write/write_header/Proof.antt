@@ -1,6 +1,6 @@
 -- `listing::write::write_header` meets its contract: the word that is spelled is the line's.
 use mathlib.Core.Path.{ap}
-use Rattle.listing.specs.Listing.{fieldNames, header}
+use Rattle.listing.specs.Listing.{columnNames, header}
 use Rattle.listing.specs.laws.Front.{same-line}
 use Rattle.listing.specs.laws.Line.{wordLine}
 use borrow.Author.Needs.{needs}
@@ -20,7 +20,7 @@ same-length : tie.Need-same-length
 same-length c = search needs
 
 returns : tie.Need-returns
-unfolding fieldNames header
+unfolding columnNames header
 returns c =
     let w = c .before .before in
     same-line _ header _ _ _ (ap wordLine (w .before .spell .ensures)) (w .write-word .ensures)

@@ -1,10 +1,10 @@
 -- What is read at a cursor is exactly a numeral and the byte behind it.
 --   decimal-is  == a number that is read stands there as its numeral, and is below 10 to the greatest number of digits
---   field-is    == the same, with the byte `mark` behind it
---   field-reads == such a numeral, with a `mark` behind it that is no digit, is read
+--   marked-is   == the same, with the byte `mark` behind it
+--   marked-reads == such a numeral, with a `mark` behind it that is no digit, is read
 -- Assumes nothing.
 use mathlib.Core.Path.{_≡_, refl, ap, ap₂, _∙_, sym}
-use mathlib.Core.Bool.{Bool, true, false, _&&_}
+use mathlib.Core.Bool.{Bool, true, false, _&&_, and-eq-true-iff}
 use mathlib.Core.List.{List, _∷_, _++_}
 use Prim.Native.Nat.{ℕ, suc, _+_, _-_, _^_, _≤_, _<_}
 use native.Mathlib.Nat.{lt-of-lt-of-le, pow-le-pow-right}
@@ -16,17 +16,13 @@ use lib.ListN.{length, getD, drop, length-append, length-drop}
 use lib.Seq.{drop-drop, drop-cons, drop-append-seam, getD-append-seam, getD-drop}
 use Rattle.basics.specs.Choice.{pick}
 use Rattle.text.specs.Text.{numeral}
-use Rattle.settings_line.specs.Decimal.{isDigit, digitRun, reading, isNumeral, greatest, readIf, decimalAt, marked, fieldAt}
+use Rattle.settings_line.specs.Decimal.{isDigit, digitRun, reading, isNumeral, greatest, readIf, decimalAt, marked, markedAt}
 use Rattle.settings_line.specs.laws.Numeral.{numeral-digits, numeral-reading, reading-numeral, reading-below}
-use Rattle.settings_line.specs.laws.Decimal.{read-number, field-marked}
+use Rattle.settings_line.specs.laws.Decimal.{read-number, marked-read}
 use Rattle.settings_line.specs.declared.decimal.Numeral.{Numeral}
 use Rattle.settings_line.specs.declared.decimal.Decimal.{Decimal}
 use Rattle.settings_line.specs.declared.decimal.Decimal.the-variants.{Number, None}
 use Rattle.settings_line.specs.laws.Run.{run-digits, run-split, run-of, numerals, numeral-is}
-
-both : (a b : Bool) → a && b ≡ true → (a ≡ true) × (b ≡ true)
-both true b e = (refl, e)
-both false b e = let z : _≡_ {A = ℕ} 0 1 = cc in absurd (omega arith)
 
 pub decimal-is : (text : List ℕ) (at most : ℕ) (x : Numeral) → decimalAt text at most ≡ Number x
     → (drop at text ≡ numeral (x .value) ++ drop (x .end) text) × (x .value < 10 ^ most)
@@ -34,7 +30,7 @@ unfolding decimalAt
 decimal-is text at most x e =
     let s = digitRun (drop at text) in
     let r = read-number (leb (reading 0 s) greatest && isNumeral most s) at s x e in
-    let f = numerals most s (both (leb (reading 0 s) greatest) (isNumeral most s) (r .0) .1) in
+    let f = numerals most s (and-eq-true-iff (leb (reading 0 s) greatest) (isNumeral most s) .0 (r .0) .1) in
     let value : x .value ≡ reading 0 s = ap (λ y. y .value) (r .1) in
     let end : x .end ≡ at + length s = ap (λ y. y .end) (r .1) in
     let digits = numeral-reading s (run-digits (drop at text)) (f .nonempty) (f .first) in (
@@ -67,10 +63,10 @@ behind text mark (Number y) x e = cases (ltb (y .end) (length text)) (eqb (getD 
     cases true false l f e = let z : _≡_ {A = ℕ} 0 1 = cc in absurd (omega arith)
     cases false b l f e = let z : _≡_ {A = ℕ} 0 1 = cc in absurd (omega arith)
 
-pub field-is : (text : List ℕ) (at most mark : ℕ) (x : Numeral) → fieldAt text at most mark ≡ Number x
+pub marked-is : (text : List ℕ) (at most mark : ℕ) (x : Numeral) → markedAt text at most mark ≡ Number x
     → (drop at text ≡ numeral (x .value) ++ (mark ∷ drop (x .end) text)) × (x .value < 10 ^ most)
-unfolding fieldAt
-field-is text at most mark x e =
+unfolding markedAt
+marked-is text at most mark x e =
     let b = behind text mark (decimalAt text at most) x e in
     let y = b .number in
     let d = decimal-is text at most y (b .read) in
@@ -83,14 +79,14 @@ field-is text at most mark x e =
 
 pub record Reads (text : List ℕ) (at most mark v : ℕ) (rest : List ℕ) : Type 0 where
   pub end : ℕ
-  pub read : fieldAt text at most mark ≡ Number (record { value = v; end = end })
+  pub read : markedAt text at most mark ≡ Number (record { value = v; end = end })
   pub ahead : drop end text ≡ rest
   pub within : end ≤ length text
 
-pub field-reads : (text : List ℕ) (at m mark v : ℕ) (rest : List ℕ) → isDigit mark ≡ false → drop at text ≡ numeral v ++ (mark ∷ rest)
+pub marked-reads : (text : List ℕ) (at m mark v : ℕ) (rest : List ℕ) → isDigit mark ≡ false → drop at text ≡ numeral v ++ (mark ∷ rest)
     → v < 10 ^ suc m → v ≤ greatest → Reads text at (suc m) mark v rest
 unfolding decimalAt
-field-reads text at m mark v rest other e short small =
+marked-reads text at m mark v rest other e short small =
     let s = digitRun (drop at text) in
     let digits : s ≡ numeral v = ap digitRun e ∙ run-of mark rest (numeral-digits v) other in
     let value : reading 0 s ≡ v = ap (reading 0) digits ∙ reading-numeral v in
@@ -108,7 +104,7 @@ field-reads text at m mark v rest other e short small =
     sym (drop-drop (length (numeral v)) at text) ∙ ap (drop (length (numeral v))) e ∙ drop-append-seam (numeral v) (mark ∷ rest) in
     record {
       end = end + 1;
-      read = field-marked text at (suc m) mark (record { value = v; end = end }) read inside follows;
+      read = marked-read text at (suc m) mark (record { value = v; end = end }) read inside follows;
       ahead = sym (drop-drop 1 end text) ∙ ap (drop 1) ahead;
       within = omega arith;
     }
