@@ -21,7 +21,8 @@ const LINE_ROOM: usize = 320;
 // Writes a line of one word.
 fn write_word(buffer: &mut [u8], word: Word) -> usize
     requires { ⌜ lineRoom ≤ length (now buffer) ⌝ }
-    ensures { λ r. ⌜ (r ≡ length (wordLine (letters word))) × (now (buffer .exit) ≡ written (wordLine (letters word)) (now (buffer .entry))) ⌝ }
+    ensures { λ r. ⌜ (r ≡ length (wordLine (letters word)))
+        × (now (buffer .exit) ≡ written (wordLine (letters word)) (now (buffer .entry))) ⌝ }
 {
     line::put_word(&mut buffer[..LINE_ROOM], word)
 }

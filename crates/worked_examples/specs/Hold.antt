@@ -70,7 +70,18 @@ each (e ∷ es) same = more (ap (λ l. getD l 0 []) same) (each es (ap (drop 1) 
 
 -- all rows at once
 every : All Holds (marked ++ (readings ++ refusals))
-unfolding placeAfter bufferAfter listingOutput columnNames header linesFrom listingLine listRefusal parsed markedAt decimalAt digitRun isDigit reading isNumeral lineText numeral numeralWithin rowsText rowText gaussian rowLengthOk shapeOk countOk settingsRefusal countOf isFieldSize add multiply negate inverseFrom invert leadFrom lead pivotAt identifying columnValue entriesBelow columnAlone rowReduced isReduced topValue cell flatten onesAmong extendedTermAt extendedTerm extendedIndex extendedColumn extendedBefore extendedRank extendedShape drawnExtended partitionsRow partitions freeFrom freeColumns dots diagram total size dottedFrom tableauOf tableau tableauValue diagramTerm diagramPlace largerDiagrams ferrersIndex shapeSize boxCount shapePlace shapeTableau ferrersRank diagramShape sizedShape ferrersShape drawnFerrers leadOf eliminate residue monic place insertResidue insertRow insertRows reducedRows join reducedOf dimension combinationAt combination InSpan SameSpan rowsOf HasDimension refuseUnless first unlessRefused isNumbering numberingOf choiceRefusal drawRefusal drawBuffer entriesRefusal numberRefusal numberOf reduceRefusal reduceBuffer spaceAnswer rowsRefusal receiveRefusal receiveOf allBelow sum sumRange value tabulate padded refusedWord refusedLine reduceOf convertRefusal convertNumber convertOf startOf wellFormed heldRows holding takeRefusal takenIn takeOf closeRefusal closeOf bytesOf exportedRefusal exportedNumber exportedOf exportedBytes spaceRefusal
+unfolding placeAfter bufferAfter listingOutput columnNames header linesFrom listingLine listRefusal parsed markedAt decimalAt digitRun
+    isDigit reading isNumeral lineText numeral numeralWithin rowsText rowText gaussian rowLengthOk shapeOk countOk settingsRefusal countOf
+    isFieldSize add multiply negate inverseFrom invert leadFrom lead pivotAt identifying columnValue entriesBelow columnAlone rowReduced
+    isReduced topValue cell flatten onesAmong extendedTermAt extendedTerm extendedIndex extendedColumn extendedBefore extendedRank
+    extendedShape drawnExtended partitionsRow partitions freeFrom freeColumns dots diagram total size dottedFrom tableauOf tableau
+    tableauValue diagramTerm diagramPlace largerDiagrams ferrersIndex shapeSize boxCount shapePlace shapeTableau ferrersRank diagramShape
+    sizedShape ferrersShape drawnFerrers leadOf eliminate residue monic place insertResidue insertRow insertRows reducedRows join
+    reducedOf dimension combinationAt combination InSpan SameSpan rowsOf HasDimension refuseUnless first unlessRefused isNumbering
+    numberingOf choiceRefusal drawRefusal drawBuffer entriesRefusal numberRefusal numberOf reduceRefusal reduceBuffer spaceAnswer
+    rowsRefusal receiveRefusal receiveOf allBelow sum sumRange value tabulate padded refusedWord refusedLine reduceOf convertRefusal
+    convertNumber convertOf startOf wellFormed heldRows holding takeRefusal takenIn takeOf closeRefusal closeOf bytesOf exportedRefusal
+    exportedNumber exportedOf exportedBytes spaceRefusal
 every = each (marked ++ (readings ++ refusals)) refl
 
 front : {P : Example → Type 0} (xs ys : List Example) → All P (xs ++ ys) → All P xs

@@ -21,7 +21,8 @@ use base.Fml.{Lft, Share, GName, Incl, ftrue, fsep, fat, flft, fdead, fres, flen
 use prog.Wp.{Heap, Env, Calls, Loops}
 use ghost.Atoms.{Atoms, sem}
 use contract.Monad.{fact}
-use types.Kit.{Given, Item, Post, Seq, runs, lands, ‵, raw, mean, some, later, _⊛_, ⋆, _$_, _∵_, !, qed, move, keep, drop, use0, use1, use2, use3}
+use types.Kit.{Given, Item, Post, Seq, runs, lands, ‵, raw, mean, some, later, _⊛_, ⋆, _$_, _∵_, !, qed, move, keep, drop, use0, use1, use2}
+use types.Kit.{use3}
 use types.Kit.{split, join, pick, rewrite, fsplit, fjoin, fpick, fpack, apply, frame, await, updating, now as at-once, show, done}
 use types.Run.{Opds}
 use types.SemTy.{Body}
@@ -205,7 +206,8 @@ module _ {M : Type 1} (𝓤 : URA M) (H : Heap 𝓤) (A : Atoms 𝓤) (W : Given
           use0 W (raw (asked v)) ask $ move ! (1 ∷ 0 ∷ []) $ done !
 
       thin-gave : (ν : ℕ) (γ : GName) (u : Val) → ent 𝓤 (Thin .post (thin-to ν γ) u) (H .⇛ (Given-back l h (piece v) ν γ u))
-      thin-gave ν γ u = gave-of l h (piece v) ν γ u (ensured 𝓤 H A (writes X piece) (writing X piece 𝓤 asked) (lifetimes ν) (thin-passed γ) tt) (λ r.
+      thin-gave ν γ u = gave-of l h (piece v) ν γ u (ensured 𝓤 H A (writes X piece) (writing X piece 𝓤 asked) (lifetimes ν) (thin-passed γ)
+          tt) (λ r.
           qed W (raw (ensured 𝓤 H A (writes X piece) (writing X piece 𝓤 asked) (lifetimes ν) (thin-passed γ) tt r) ∷ []) ∵
           use1 W (some (λ (zs : Lasts (writes X piece) (lifetimes ν) (thin-passed γ)).
           ‵ (lasts (writes X piece) (lifetimes ν) (thin-passed γ) zs) ⊛ raw (fact 𝓤 (Wrote h (piece v) r (zs .0))))) (id⊢ 𝓤 _) $
@@ -242,7 +244,8 @@ module _ {M : Type 1} (𝓤 : URA M) (H : Heap 𝓤) (A : Atoms 𝓤) (W : Given
             nothing ! $ move ! (3 ∷ 0 ∷ []) $ join ! $ move ! (2 ∷ 0 ∷ []) $ join ! $ join ! $ frame ! $ done !
 
         mark-gave : (ν : ℕ) (γ : GName) (u : Val) → ent 𝓤 (Mark .post (mark-to ν γ) u) (H .⇛ (Given-back l h (piece v) ν γ u))
-        mark-gave ν γ u = gave-of l h (piece v) ν γ u (ensured 𝓤 H A (marks X piece) (marking X piece 𝓤 v) (lifetimes ν) (mark-passed γ) tt) (λ r.
+        mark-gave ν γ u = gave-of l h (piece v) ν γ u (ensured 𝓤 H A (marks X piece) (marking X piece 𝓤 v) (lifetimes ν) (mark-passed γ) tt)
+            (λ r.
             qed W (raw (ensured 𝓤 H A (marks X piece) (marking X piece 𝓤 v) (lifetimes ν) (mark-passed γ) tt r) ∷ []) ∵
             use1 W (some (λ (zs : Lasts (marks X piece) (lifetimes ν) (mark-passed γ)).
             ‵ (lasts (marks X piece) (lifetimes ν) (mark-passed γ) zs) ⊛ raw (fact 𝓤 (Wrote h (piece v) r (zs .0))))) (id⊢ 𝓤 _) $
