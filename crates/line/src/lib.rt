@@ -2,12 +2,12 @@
 ghost use mathlib.Core.List.{[], _∷_};
 ghost use Rattle.text.specs.Text.{lineFeed};
 ghost use Rattle.text.specs.Piece.{Composed};
-ghost use Rattle.text.specs.Rows.{DigitRows, rowsText};
+ghost use Rattle.rows_text.specs.Rows.{DigitRows, rowsText};
 ghost use Rattle.text.specs.Word.{letters};
 ghost use Rattle.line.specs.Line.{linePieces};
 use extended::ExtendedIndex;
 use ferrers::FerrersIndex;
-use text::rows::Rows;
+use rows_text::Rows;
 use text::word::Word;
 
 // Puts the line of a space together: its extended index, its Ferrers index and its rows. Answers how far the buffer is filled.

@@ -6,7 +6,7 @@
 use mathlib.Core.List.{List, [], _∷_, _++_}
 use Prim.Native.Nat.{ℕ}
 use Rattle.text.specs.Text.{comma, lineFeed, numeral}
-use Rattle.text.specs.Rows.{rowsText}
+use Rattle.rows_text.specs.Rows.{rowsText}
 
 abbrev pub lineRoom : ℕ
 lineRoom = 320

@@ -11,7 +11,7 @@ ghost use Rattle.listing.specs.Steps.{chunkLines, chunkSize};
 ghost use Rattle.listing.specs.laws.Listing.{Listable};
 ghost use Rattle.listing.specs.laws.Line.{wordLine};
 use extended::ExtendedIndex;
-use text::rows::Rows;
+use rows_text::Rows;
 use text::word;
 use text::word::Word;
 

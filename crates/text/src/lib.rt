@@ -1,4 +1,3 @@
-// Text as bytes: decimal numerals, words and rows, put into a lent buffer.
+// Text as bytes: decimal numerals and words, put into a lent buffer.
 pub mod append;
-pub mod rows;
 pub mod word;

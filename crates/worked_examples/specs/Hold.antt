@@ -42,7 +42,7 @@ use Rattle.receiver.specs.Receiver.{startOf, wellFormed, heldRows, holding, tak
 use Rattle.pandrwyg.specs.Exported.{bytesOf, exportedRefusal, exportedNumber, exportedOf, exportedBytes}
 use Rattle.text.specs.Piece.{placeAfter, bufferAfter}
 use Rattle.text.specs.Text.{numeralWithin, numeral}
-use Rattle.text.specs.Rows.{rowText, rowsText}
+use Rattle.rows_text.specs.Rows.{rowText, rowsText}
 use Rattle.listing.specs.Line.{lineText}
 use Rattle.settings_line.specs.Decimal.{isDigit, digitRun, reading, isNumeral, decimalAt, markedAt}
 use Rattle.settings_line.specs.SettingsLine.{parsed}

@@ -4,12 +4,11 @@ ghost use mathlib.Core.Path.{_≡_};
 ghost use mathlib.Core.List.{[], _∷_};
 ghost use Prim.Native.Nat.{_<_};
 ghost use Rattle.text.specs.Text.{comma as commaByte, slash as slashByte, lineFeed, glyph, numeral};
-ghost use Rattle.text.specs.Rows.{DigitRows, rowsText};
+ghost use Rattle.rows_text.specs.Rows.{DigitRows, rowsText};
 ghost use Rattle.text.specs.Word.{letters};
 ghost use Rattle.writer.specs.Writer.{Wrote};
+use rows_text::Rows;
 use text::append;
-use text::rows;
-use text::rows::Rows;
 use text::word::Word;
 
 // The bytes of the comma and the line feed.
@@ -65,7 +64,7 @@ pub fn comma<'s, 'a>(w: &'s mut Writer<'a>) -> bool
 pub fn slash<'s, 'a>(w: &'s mut Writer<'a>) -> bool
     ensures { λ r. ⌜ Wrote (now (w .entry)) (slashByte ∷ []) r (now (w .exit)) ⌝ }
 {
-    let byte = append::SLASH;
+    let byte = rows_text::SLASH;
     let at = w.at;
     let put = append::append_byte(&mut *w.buffer, at, byte);
     w.at = put.at;
@@ -99,7 +98,7 @@ pub fn rows<'s, 'a>(w: &'s mut Writer<'a>, matrix: Rows) -> bool
     ensures { λ r. ⌜ Wrote (now (w .entry)) (rowsText (matrix .n) (matrix .k) (matrix .entries)) r (now (w .exit)) ⌝ }
 {
     let at = w.at;
-    let put = rows::append_rows(&mut *w.buffer, at, matrix);
+    let put = rows_text::append_rows(&mut *w.buffer, at, matrix);
     w.at = put.at;
     put.fits
 }

@@ -40,18 +40,18 @@ use denote.Exit.{yes}
 use denote.Signature.{plain}
 use Rattle.text.specs.Text.{comma, lineFeed, numeral}
 use Rattle.text.specs.laws.Piece.{bufferWith-length}
-use Rattle.text.specs.Rows.{DigitRows, rowsText}
+use Rattle.rows_text.specs.Rows.{DigitRows, rowsText}
 use Rattle.writer.specs.Writer.{appended}
 use Rattle.extended.specs.declared.ExtendedIndex.{ExtendedIndex}
 use Rattle.ferrers.specs.declared.FerrersIndex.{FerrersIndex}
-use Rattle.text.specs.declared.rows.Rows.{Rows}
+use Rattle.rows_text.specs.declared.Rows.{Rows}
 use Rattle.writer.specs.declared.Writer.{Writer}
 use Rattle.extended.proofs.ExtendedIndex as Ex
 use Rattle.extended.proofs.ExtendedIndex.Laws as Ex′
 use Rattle.ferrers.proofs.FerrersIndex as Fe
 use Rattle.ferrers.proofs.FerrersIndex.Laws as Fe′
-use Rattle.text.proofs.rows.Rows as Rs
-use Rattle.text.proofs.rows.Rows.Laws as Rs′
+use Rattle.rows_text.proofs.Rows as Rs
+use Rattle.rows_text.proofs.Rows.Laws as Rs′
 use Rattle.writer.proofs.Writer.Laws as T′
 use Rattle.writer.proofs.Compose as compose
 use Rattle.writer.proofs.Lent as lent

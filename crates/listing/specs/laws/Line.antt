@@ -24,9 +24,9 @@ use Rattle.extended.specs.laws.Theorems.{drawn-reduced}
 use Rattle.ferrers.specs.Ferrers.{ferrersIndex}
 use Rattle.ferrers.specs.laws.Theorems.{index-below-count}
 use Rattle.text.specs.Text.{lineFeed, numeral}
-use Rattle.text.specs.Rows.{DigitRows, rowsText}
+use Rattle.rows_text.specs.Rows.{DigitRows, rowsText}
 use Rattle.text.specs.laws.Numeral.{numeral-length}
-use Rattle.text.specs.laws.Rows.{rowsText-length}
+use Rattle.rows_text.specs.laws.Rows.{rowsText-length}
 use Rattle.listing.specs.Line.{longestLine, lineText}
 use Rattle.listing.specs.Listing.{greatestListing, listingLine}
 use Rattle.listing.specs.laws.Listing.{Listable}

@@ -7,14 +7,14 @@ use contract.Running.{givenOf, tables, tablesOf}
 use denote.Struct.Laws as LL
 use denote.Triple.Spec.{tripleOf}
 use denote.Triple.Table.{entered, cited}
-use Rattle.text.specs.Rows.{DigitRows, rowsText}
-use Rattle.text.proofs.rows.Rows as X
-use Rattle.text.proofs.rows.Rows.Laws as X′
+use Rattle.rows_text.specs.Rows.{DigitRows, rowsText}
+use Rattle.rows_text.proofs.Rows as X
+use Rattle.rows_text.proofs.Rows.Laws as X′
 use Rattle.writer.proofs.Thin as thin
-use Rattle.text.proofs.rows.append_rows as callee
-use Rattle.text.proofs.rows.append_rows.Symbol as callee-def
-use Rattle.text.proofs.rows.append_rows.Symbol.{name as #callee}
-use Rattle.text.proofs.rows.append_rows.Met as callee-thm
+use Rattle.rows_text.proofs.append_rows as callee
+use Rattle.rows_text.proofs.append_rows.Symbol as callee-def
+use Rattle.rows_text.proofs.append_rows.Symbol.{name as #callee}
+use Rattle.rows_text.proofs.append_rows.Met as callee-thm
 use Rattle.writer.proofs.rows.Key.{name as #this}
 use Rattle.writer.proofs.rows as this
 use Rattle.writer.proofs.rows.Statement as stated
@@ -32,4 +32,4 @@ rows-spec 𝓤 H 𝓜 𝓖 𝓡 =
     (λ _ _. refl)
     (tablesOf 𝓤 H 𝓜 (tables 𝓤 H 𝓜 𝓡 code.env)) #callee
     (cited 𝓤 H (tripleOf 𝓤 H (𝓖 .A) callee.signature (callee.spec 𝓤 H (𝓖 .A) (𝓜 .mem) (𝓡 .run))) 𝓜 𝓡 code.env #callee callee-def.routine
-    code.calls-text·rows·append-rows (callee-thm.met 𝓤 H 𝓜 𝓖 𝓡)))
+    code.calls-rows-text·append-rows (callee-thm.met 𝓤 H 𝓜 𝓖 𝓡)))

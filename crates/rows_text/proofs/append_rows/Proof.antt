@@ -1,4 +1,4 @@
--- `text::rows::append_rows` meets its contract: the room is tested for the whole text, of which the first bytes are then in their places.
+-- `rows_text::append_rows` meets its contract: the room is tested for the whole text, of which the first bytes are then in their places.
 use mathlib.Core.Path.{_≡_, ap, ap₂, _∙_, sym}
 use Prim.Native.Nat.{_+_, _-_, _≤_}
 use native.Mathlib.Numerals.{add-one}
@@ -8,12 +8,12 @@ use borrow.Author.Tests.{leb-true, not-true, not-false}
 use lib.Dec.{leb}
 use lib.ListN.{length, set, length-set}
 use lib.Seq.{paste, paste-zero, paste-suc}
 use Rattle.text.specs.Piece.{fits}
-use Rattle.text.specs.Rows.{rowsText}
+use Rattle.rows_text.specs.Rows.{rowsText}
 use Rattle.text.specs.laws.Piece.{refused, fitted}
-use Rattle.text.specs.laws.Rows.{rowsText-length}
-use Rattle.text.proofs.rows.append_rows.Statement.{statement}
-use Rattle.text.proofs.rows.append_rows.Tie as tie
+use Rattle.rows_text.specs.laws.Rows.{rowsText-length}
+use Rattle.rows_text.proofs.append_rows.Statement.{statement}
+use Rattle.rows_text.proofs.append_rows.Tie as tie
 
 abbrev Inv-loop : tie.InvT-loop
 Inv-loop buffer₀ at entries n k size place₀ buffer place =

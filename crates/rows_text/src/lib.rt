@@ -2,10 +2,13 @@
 ghost use mathlib.Core.Path.{_≡_};
 ghost use Prim.Native.Nat.{_-_, _+_, _*_, _<_, _≤_};
 ghost use lib.ListN.{getD};
 ghost use Rattle.text.specs.Piece.{Appended};
-ghost use Rattle.text.specs.Rows.{DigitRows, rowsText};
-use crate::append;
-use crate::append::Put;
+ghost use Rattle.rows_text.specs.Rows.{DigitRows, rowsText};
+use text::append;
+use text::append::Put;
+
+// The byte of the slash.
+pub const SLASH: u8 = 47;
 
 // A matrix: k rows of n entries, row by row. There is room for 16 rows of 16.
 pub struct Rows {
@@ -33,7 +36,7 @@ fn rows_byte(matrix: &[u8], n: usize, k: usize, place: usize) -> u8
     let row = place / (n + 1);
     let column = place % (n + 1);
     if column == n {
-        return append::SLASH;
+        return SLASH;
     }
     append::ZERO + matrix[row * n + column]
 }

@@ -21,8 +21,8 @@ use Rattle.basics.specs.laws.Order.{le-or-lt}
 use Rattle.basics.specs.laws.Table.{table-at}
 use Rattle.basics.specs.laws.TableLaws.{tabulate-same}
 use Rattle.basics.specs.laws.TableSize.{tabulate-length}
 use Rattle.text.specs.Text.{slash, glyph}
-use Rattle.text.specs.Rows.{rowText, rowsText}
+use Rattle.rows_text.specs.Rows.{rowText, rowsText}
 
 module _ (n : ℕ) (m : List ℕ) where
   row-length : (i : ℕ) → length (rowText n m i) ≡ n

@@ -1,11 +1,11 @@
--- `text::rows::rows_byte` meets its contract: the quotient by n + 1 is the row, and the remainder the column, or n at the slash.
+-- `rows_text::rows_byte` meets its contract: the quotient by n + 1 is the row, and the remainder the column, or n at the slash.
 use Prim.Native.Nat.{_+_, _*_, _/_, _%_, _<_}
 use native.Mathlib.Nat.{mod-lt}
 use native.Mathlib.Omega.{arith}
 use borrow.Author.Needs.{needs}
-use Rattle.text.specs.laws.Rows.{size-bound, place-slash, place-digit, place-entry}
-use Rattle.text.proofs.rows.rows_byte.Statement.{statement}
-use Rattle.text.proofs.rows.rows_byte.Tie as tie
+use Rattle.rows_text.specs.laws.Rows.{size-bound, place-slash, place-digit, place-entry}
+use Rattle.rows_text.proofs.rows_byte.Statement.{statement}
+use Rattle.rows_text.proofs.rows_byte.Tie as tie
 
 add-row : tie.Need-add-row
 add-row c = search needs

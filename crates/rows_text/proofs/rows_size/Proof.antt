@@ -1,10 +1,10 @@
--- `text::rows::rows_size` meets its contract: with at most 16 rows of at most 16 digits no number wraps.
+-- `rows_text::rows_size` meets its contract: with at most 16 rows of at most 16 digits no number wraps.
 use mathlib.Core.Path.{_≡_}
 use native.Mathlib.Omega.{arith}
 use borrow.Author.Needs.{needs}
-use Rattle.text.specs.laws.Rows.{size-bound}
-use Rattle.text.proofs.rows.rows_size.Statement.{statement}
-use Rattle.text.proofs.rows.rows_size.Tie as tie
+use Rattle.rows_text.specs.laws.Rows.{size-bound}
+use Rattle.rows_text.proofs.rows_size.Statement.{statement}
+use Rattle.rows_text.proofs.rows_size.Tie as tie
 
 returns : tie.Need-returns
 returns c =
