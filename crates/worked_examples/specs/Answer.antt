@@ -9,7 +9,6 @@
 --   lent size   == a buffer painted with 165s
 --   receiver, image == a receiver by its fields, entries of 0 after the given ones; and back
 -- Assumes nothing.
-use mathlib.Core.Bool.{Bool}
 use mathlib.Core.List.{List, [], _∷_, _++_}
 use Prim.Native.Nat.{ℕ, _*_, _-_, _^_}
 use lib.ListN.{length, replicate}

@@ -3,15 +3,15 @@
 -- are passed as a value; a comma, a slash and a line feed are literals of the code.
 -- They differ in the value's type X, of the MIR type τ, in the piece that a value stands for, in what is asked of it, and in the function f
 -- that is called.
---     thin τ f, mark m f    the code of such a function, with a value and with a literal
+--     thin τ f, mark m f    the code of such a function, with a value and with a literal. held and puts, what the two share
 --     appends, appending    the callee's signature and contract: the piece is put into the buffer
 --     writes, writing       its own: the piece is put into the writer; marks, marking, with a literal
 --     consequence           a call asks more and gives less
 --     calls-again           the call: the buffer is lent again for it, and comes back with the piece put in. A step of `Types/Kit.antt`'s
 --                           calculus
---     meets, mark-meets     the code meets its contract where the callee meets its own. X is plain data: its machine value is told by what
---                           it
---                           owns, it is owned at will, and nothing is said of it at exit
+--     puts-walk             the walk from where the value stands in its local, whether it was passed or is a literal
+--     meets, mark-meets     the code meets its contract where the callee meets its own. X is plain data: its machine value is told by
+--                           what it owns, it is owned at will, and nothing is said of it at exit
 -- Assumes `Given`.
 use mathlib.Core.Path.{_≡_, refl, ap, subst}
 use Prim.Native.Nat.{ℕ, _<_, _^_}
