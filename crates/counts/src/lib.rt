@@ -46,7 +46,7 @@ pub fn coefficient(q: u64, n: u64, k: u64) -> u64
     if n < k {
         return 0;
     }
-    let part = field::place(q) as u64;
+    let part = field::position(q) as u64;
     lookup::count(part * 81 + half_place(n, k))
 }
 

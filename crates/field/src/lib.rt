@@ -4,15 +4,15 @@ ghost use mathlib.Core.Path.{_≡_};
 ghost use Prim.Native.Nat.{_+_, _/_, _%_, _<_};
 ghost use lib.Dec.{T};
 ghost use lib.ListN.{getD};
-ghost use Rattle.basics.specs.laws.Member.{position};
+ghost use Rattle.basics.specs.laws.Member.{position as positionIn};
 ghost use Rattle.field.specs.laws.Inverses.{inverses};
 ghost use Rattle.field.specs.Field.{fieldSizes, isFieldSize};
 ghost use Rattle.field.specs.laws.Field.{orZero};
 ghost use Rattle.field.specs.Field.{add as sum, multiply as product, negate as negative, invert as inverse};
 
-// The place of q's part in a table with a part for each field size; 4 where q is none.
-pub fn place(q: u64) -> usize
-    ensures { λ r. ⌜ r ≡ position q fieldSizes ⌝ }
+// The position of q's part in a table with a part for each field size; 4 where q is none.
+pub fn position(q: u64) -> usize
+    ensures { λ r. ⌜ r ≡ positionIn q fieldSizes ⌝ }
 {
     match q {
         2 => 0,
@@ -26,7 +26,7 @@ pub fn place(q: u64) -> usize
 pub fn is_size(q: u64) -> bool
     ensures { λ r. ⌜ r ≡ isFieldSize q ⌝ }
 {
-    place(q) < 4
+    position(q) < 4
 }
 
 fn remainder(q: u64, x: u16) -> u8
@@ -110,7 +110,7 @@ fn inverse_at(at: u64) -> u8
 pub fn invert(q: u64, a: u8) -> u8
     ensures { λ r. ⌜ r ≡ orZero q (inverse q a) ⌝ }
 {
-    let part = place(q) as u64;
+    let part = position(q) as u64;
     let at = remainder(q, a as u16) as u64;
     inverse_at(part * 8 + at)
 }

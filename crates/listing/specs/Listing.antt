@@ -5,7 +5,7 @@
 --   listRefusal q n k      == the first of 1, 2, 3, 12 that applies, else 0
 --   listingLine q n k i    == the line of the space with the extended index i
 --   linesFrom q n k i m    == the lines of the m extended indexes from i on, rising
---   fieldNames, header     == "extended,ferrers,rows"; this and a line feed
+--   columnNames, header     == "extended,ferrers,rows"; this and a line feed
 --   refusedWord, refusedLine r == "refused"; this, a comma, the number r and a line feed
 --   listingOutput input    == all that the program writes for the bytes of its input
 -- Assumes nothing.
@@ -37,11 +37,11 @@ unfoldable pub linesFrom : ℕ → ℕ → ℕ → ℕ → ℕ → List ℕ
 linesFrom q n k i zero = []
 linesFrom q n k i (suc m) = listingLine q n k i ++ linesFrom q n k (suc i) m
 
-unfoldable pub fieldNames : List ℕ
-fieldNames = 101 ∷ 120 ∷ 116 ∷ 101 ∷ 110 ∷ 100 ∷ 101 ∷ 100 ∷ 44 ∷ 102 ∷ 101 ∷ 114 ∷ 114 ∷ 101 ∷ 114 ∷ 115 ∷ 44 ∷ 114 ∷ 111 ∷ 119 ∷ 115 ∷ []
+unfoldable pub columnNames : List ℕ
+columnNames = 101 ∷ 120 ∷ 116 ∷ 101 ∷ 110 ∷ 100 ∷ 101 ∷ 100 ∷ 44 ∷ 102 ∷ 101 ∷ 114 ∷ 114 ∷ 101 ∷ 114 ∷ 115 ∷ 44 ∷ 114 ∷ 111 ∷ 119 ∷ 115 ∷ []
 
 unfoldable pub header : List ℕ
-header = fieldNames ++ (lineFeed ∷ [])
+header = columnNames ++ (lineFeed ∷ [])
 
 unfoldable pub refusedWord : List ℕ
 refusedWord = 114 ∷ 101 ∷ 102 ∷ 117 ∷ 115 ∷ 101 ∷ 100 ∷ []

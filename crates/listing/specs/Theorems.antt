@@ -26,7 +26,7 @@ use Rattle.settings_line.specs.declared.Parsed.the-variants.{Settings as settin
 use Rattle.text.specs.Piece.{fits}
 use Rattle.text.specs.Theorems.{piece-fits}
 use Rattle.listing.specs.Line.{lineRoom, longestLine}
-use Rattle.listing.specs.Listing.{listRefusal, listingLine, linesFrom, fieldNames, header, refusedWord, refusedLine, outputFor}
+use Rattle.listing.specs.Listing.{listRefusal, listingLine, linesFrom, columnNames, header, refusedWord, refusedLine, outputFor}
 use Rattle.listing.specs.Listing.{listingOutput}
 use Rattle.listing.specs.laws.Listing.{listable, lines-append}
 use Rattle.listing.specs.laws.Line.{line-short, line-nonempty}
@@ -96,7 +96,7 @@ lines-empty p true e z =
     (sym (ap length (chunk-live p e)) ∙ z))
 
 pub chunk-empty : (s : State) → length (chunkOf s) ≡ 0 → (remaining s ≡ []) × (nextState s ≡ Done)
-unfolding fieldNames header refusedWord refusedLine
+unfolding columnNames header refusedWord refusedLine
 chunk-empty (Header x) z = absurd (omega arith)
 chunk-empty (Lines p) z = lines-empty p (live p) refl z
 chunk-empty (Refused r) z = let size = simp length-append at z in absurd (omega arith)

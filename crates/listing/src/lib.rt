@@ -1,5 +1,4 @@
 // The listing of all spaces of some settings, written chunk by chunk.
-mod line;
 mod write;
 
 ghost use mathlib.Core.Path.{_≡_};

@@ -3,28 +3,36 @@ ghost use mathlib.Core.Path.{_≡_};
 ghost use Prim.Native.Nat.{_-_, _≤_, _<_};
 ghost use lib.ListN.{length};
 ghost use Rattle.counts.specs.Gaussian.{gaussian};
+ghost use Rattle.text.specs.Word.{letters};
 ghost use Rattle.listing.specs.Front.{written};
 ghost use Rattle.listing.specs.Line.{lineRoom};
 ghost use Rattle.listing.specs.Listing.{header, refusedLine, listingLine, linesFrom};
 ghost use Rattle.listing.specs.Steps.{chunkLines, chunkSize};
 ghost use Rattle.listing.specs.laws.Listing.{Listable};
-use crate::line;
+ghost use Rattle.listing.specs.laws.Line.{wordLine};
 use extended::ExtendedIndex;
-use text::rows::Rows;
+use rows_text::Rows;
 use text::word;
+use text::word::Word;
 
 // The bytes that the line writer is lent for a line.
 const LINE_ROOM: usize = 320;
+
+// Writes a line of one word.
+fn write_word(buffer: &mut [u8], word: Word) -> usize
+    requires { ⌜ lineRoom ≤ length (now buffer) ⌝ }
+    ensures { λ r. ⌜ (r ≡ length (wordLine (letters word)))
+        × (now (buffer .exit) ≡ written (wordLine (letters word)) (now (buffer .entry))) ⌝ }
+{
+    line::put_word(&mut buffer[..LINE_ROOM], word)
+}
 
 // Writes the header.
 pub(crate) fn write_header(buffer: &mut [u8]) -> usize
     requires { ⌜ lineRoom ≤ length (now buffer) ⌝ }
     ensures { λ r. ⌜ (r ≡ length header) × (now (buffer .exit) ≡ written header (now (buffer .entry))) ⌝ }
 {
-    line::put_header(
-        &mut buffer[..LINE_ROOM],
-        word::spell(b"extended,ferrers,rows"),
-    )
+    write_word(buffer, word::spell(b"extended,ferrers,rows"))
 }
 
 // Writes the line of a refusal.
@@ -32,11 +40,7 @@ pub(crate) fn write_refused(buffer: &mut [u8], refusal: u32) -> usize
     requires { ⌜ lineRoom ≤ length (now buffer) ⌝ }
     ensures { λ r. ⌜ (r ≡ length (refusedLine refusal)) × (now (buffer .exit) ≡ written (refusedLine refusal) (now (buffer .entry))) ⌝ }
 {
-    line::put_refused(
-        &mut buffer[..LINE_ROOM],
-        word::spell(b"refused"),
-        refusal as u64,
-    )
+    write_word(buffer, word::numbered(b"refused,", refusal as u64))
 }
 
 // Writes the line of the space with the given extended index.

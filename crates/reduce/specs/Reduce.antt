@@ -10,7 +10,7 @@ use mathlib.Core.List.{List, [], _∷_}
 use Prim.Native.Nat.{ℕ, _*_}
 use lib.Dec.{eqb, leb}
 use lib.ListN.{length}
-use Rattle.refusal.specs.Refusal.{fieldSizeRefusal, shapeRefusal, lengthRefusal, entryRefusal, rowCountRefusal}
+use Rattle.refusal.specs.Refusal.{fieldSizeRefusal, rangeRefusal, lengthRefusal, entryRefusal, rowCountRefusal}
 use Rattle.refusal.specs.Refusal.{refuseUnless, first, unlessRefused}
 use Rattle.field.specs.Field.{isFieldSize}
 use Rattle.settings.specs.Settings.{rowLengthOk}
@@ -28,7 +28,7 @@ unfoldable pub reduceRefusal : ℕ → ℕ → ℕ → List ℕ → ℕ → ℕ
 reduceRefusal q n r input size =
     first
     (refuseUnless (isFieldSize q) fieldSizeRefusal
-    ∷ refuseUnless (rowLengthOk n) shapeRefusal
+    ∷ refuseUnless (rowLengthOk n) rangeRefusal
     ∷ refuseUnless (leb r mostRows) rowCountRefusal
     ∷ refuseUnless (eqb (length input) (r * n)) lengthRefusal
     ∷ refuseUnless (eqb size (n * n)) lengthRefusal

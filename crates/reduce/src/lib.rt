@@ -28,7 +28,7 @@ fn reduce_refusal(q: u64, n: u64, row_count: u64, rows: &[u8], size: usize) -> u
         return refusal::FIELD_SIZE;
     }
     if !settings::row_length_ok(n) {
-        return refusal::SHAPE;
+        return refusal::RANGE;
     }
     if MOST_ROWS < row_count {
         return refusal::ROW_COUNT;

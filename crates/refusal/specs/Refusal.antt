@@ -14,8 +14,8 @@ abbrev pub fieldSizeRefusal : ℕ
 fieldSizeRefusal = 1
 
 -- n is outside 1 to 16 or k exceeds n
-abbrev pub shapeRefusal : ℕ
-shapeRefusal = 2
+abbrev pub rangeRefusal : ℕ
+rangeRefusal = 2
 
 -- N exceeds 2^64 - 1
 abbrev pub countRefusal : ℕ

@@ -1,7 +1,7 @@
 // The refusals of document 01 by name. specs/Refusal.antt has each number's sentence; a call's contract cites the name there.
 pub const FIELD_SIZE: u32 = 1;
 
-pub const SHAPE: u32 = 2;
+pub const RANGE: u32 = 2;
 
 pub const COUNT: u32 = 3;
 

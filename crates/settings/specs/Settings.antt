@@ -1,6 +1,6 @@
 -- Settings and Count. Document 01: "Row length n is 1 to 16. Dimension k is 0 to n. Settings are accepted when N is at most
 -- 2^64 - 1." "Count, from q, n, k: 1 if q is none of the four; 2 if n is outside 1 to 16 or k exceeds n; 3 if N exceeds 2^64 - 1."
---   rowLengthOk n, shapeOk n k, countOk q n k == the tests behind 2 and 3
+--   rowLengthOk n, rangeOk n k, countOk q n k == the tests behind 2 and 3
 --   settingsRefusal q n k == the first of 1, 2, 3 that applies, else 0; the calls that take settings begin with it
 --   countOf q n k     == what Count answers
 --   countNumber, countValue == document 01's refusal number and count of each case of the answer
@@ -9,7 +9,7 @@ use mathlib.Core.Bool.{Bool, _&&_}
 use mathlib.Core.List.{[], _∷_}
 use Prim.Native.Nat.{ℕ}
 use lib.Dec.{leb}
-use Rattle.refusal.specs.Refusal.{fieldSizeRefusal, shapeRefusal, countRefusal, refuseUnless, first, unlessRefused}
+use Rattle.refusal.specs.Refusal.{fieldSizeRefusal, rangeRefusal, countRefusal, refuseUnless, first, unlessRefused}
 use Rattle.field.specs.Field.{isFieldSize}
 use Rattle.counts.specs.Gaussian.{gaussian, greatestCount}
 use Rattle.settings.specs.declared.Counted.{Counted}
@@ -18,8 +18,8 @@ use Rattle.settings.specs.declared.Counted.the-variants.{Count, Refused}
 unfoldable pub rowLengthOk : ℕ → Bool
 rowLengthOk n = leb 1 n && leb n 16
 
-unfoldable pub shapeOk : ℕ → ℕ → Bool
-shapeOk n k = rowLengthOk n && leb k n
+unfoldable pub rangeOk : ℕ → ℕ → Bool
+rangeOk n k = rowLengthOk n && leb k n
 
 unfoldable pub countOk : ℕ → ℕ → ℕ → Bool
 countOk q n k = leb (gaussian q n k) greatestCount
@@ -28,7 +28,7 @@ unfoldable pub settingsRefusal : ℕ → ℕ → ℕ → ℕ
 settingsRefusal q n k =
     first
     (refuseUnless (isFieldSize q) fieldSizeRefusal
-    ∷ refuseUnless (shapeOk n k) shapeRefusal
+    ∷ refuseUnless (rangeOk n k) rangeRefusal
     ∷ refuseUnless (countOk q n k) countRefusal
     ∷ [])
 

@@ -25,10 +25,10 @@ pub fn settings_refusal(q: u64, n: u64, k: u64) -> u32
         return refusal::FIELD_SIZE;
     }
     if !row_length_ok(n) {
-        return refusal::SHAPE;
+        return refusal::RANGE;
     }
     if n < k {
-        return refusal::SHAPE;
+        return refusal::RANGE;
     }
     if counts::coefficient(q, n, k) == 0 {
         return refusal::COUNT;

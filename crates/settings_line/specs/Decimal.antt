@@ -6,8 +6,8 @@
 --   greatest            == 2^64 - 1; a greater number is not read
 --   readAt text at      == the number of all digits from the cursor on, with the cursor past them
 --   decimalAt text at most     == the same, where they are a numeral of 1 to `most` digits
---   fieldAt text at most mark  == the same, where the byte `mark` follows, with the cursor past the mark
--- laws.Field shows what is read: exactly the numerals.
+--   markedAt text at most mark  == the same, where the byte `mark` follows, with the cursor past the mark
+-- laws.Marked shows what is read: exactly the numerals.
 -- Assumes nothing.
 use mathlib.Core.Bool.{Bool, true, false, _&&_, _||_, not}
 use mathlib.Core.List.{List, [], _∷_}
@@ -52,5 +52,5 @@ marked text mark (Number x) =
     pick (ltb (x .end) (length text) && eqb (getD text (x .end) 0) mark) (Number (record { value = x .value; end = x .end + 1 })) None
 marked text mark None = None
 
-unfoldable pub fieldAt : List ℕ → ℕ → ℕ → ℕ → Decimal
-fieldAt text at most mark = marked text mark (decimalAt text at most)
+unfoldable pub markedAt : List ℕ → ℕ → ℕ → ℕ → Decimal
+markedAt text at most mark = marked text mark (decimalAt text at most)

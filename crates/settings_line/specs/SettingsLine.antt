@@ -14,7 +14,7 @@ use lib.Dec.{eqb}
 use lib.ListN.{length}
 use Rattle.basics.specs.Choice.{pick}
 use Rattle.text.specs.Text.{comma, lineFeed, numeral}
-use Rattle.settings_line.specs.Decimal.{fieldAt}
+use Rattle.settings_line.specs.Decimal.{markedAt}
 use Rattle.settings_line.specs.declared.decimal.Numeral.{Numeral}
 use Rattle.settings_line.specs.declared.decimal.Decimal.{Decimal}
 use Rattle.settings_line.specs.declared.decimal.Decimal.the-variants.{Number, None}
@@ -47,14 +47,14 @@ next None more = nothing
 
 unfoldable pub lineAt : List ℕ → ℕ → Found
 lineAt s at =
-    next (fieldAt s at 3 comma)
-    (λ q. next (fieldAt s (q .end) 3 comma)
-    (λ n. next (fieldAt s (n .end) 3 lineFeed)
+    next (markedAt s at 3 comma)
+    (λ q. next (markedAt s (q .end) 3 comma)
+    (λ n. next (markedAt s (n .end) 3 lineFeed)
     (λ k. line (record { settings = record { q = q .value; n = n .value; k = k .value }; end = k .end }))))
 
 unfoldable pub parsed : List ℕ → Parsed
 parsed s =
-    after (fieldAt s 0 3 comma)
-    (λ q. after (fieldAt s (q .end) 3 comma)
-    (λ n. after (fieldAt s (n .end) 3 lineFeed)
+    after (markedAt s 0 3 comma)
+    (λ q. after (markedAt s (q .end) 3 comma)
+    (λ n. after (markedAt s (n .end) 3 lineFeed)
     (λ k. pick (eqb (k .end) (length s)) (settings (record { q = q .value; n = n .value; k = k .value })) Malformed)))

@@ -18,8 +18,8 @@ use Rattle.basics.specs.Choice.{pick}
 use Rattle.basics.specs.laws.Order.{le-or-lt}
 use Rattle.text.specs.Text.{comma, lineFeed, numeral}
 use Rattle.text.specs.laws.Numeral.{numeral-length}
-use Rattle.settings_line.specs.Decimal.{isDigit, fieldAt}
-use Rattle.settings_line.specs.laws.Field.{field-is, Reads, field-reads}
+use Rattle.settings_line.specs.Decimal.{isDigit, markedAt}
+use Rattle.settings_line.specs.laws.Marked.{marked-is, Reads, marked-reads}
 use Rattle.settings_line.specs.laws.Parse.{parsed-settings}
 use Rattle.settings_line.specs.SettingsLine.{decisive, settingsLine, IsSettingsLine, after, parsed}
 use Rattle.settings_line.specs.declared.decimal.Numeral.{Numeral}
@@ -46,13 +46,13 @@ at-end false x y e = let z : _≡_ {A = ℕ} 0 1 = cc in absurd (omega arith)
 settings-are : (s : List ℕ) (x : Settings) → parsed s ≡ settings x → IsSettingsLine s x
 unfolding parsed settingsLine
 settings-are s x e =
-    let q = before (fieldAt s 0 3 comma) _ x e in
-    let n = before (fieldAt s (q .number .end) 3 comma) _ x (q .rest) in
-    let k = before (fieldAt s (n .number .end) 3 lineFeed) _ x (n .rest) in
+    let q = before (markedAt s 0 3 comma) _ x e in
+    let n = before (markedAt s (q .number .end) 3 comma) _ x (q .rest) in
+    let k = before (markedAt s (n .number .end) 3 lineFeed) _ x (n .rest) in
     let end = at-end (eqb (k .number .end) (length s)) x _ (k .rest) in
-    let first = field-is s 0 3 comma (q .number) (q .read) in
-    let second = field-is s (q .number .end) 3 comma (n .number) (n .read) in
-    let third = field-is s (n .number .end) 3 lineFeed (k .number) (k .read) in
+    let first = marked-is s 0 3 comma (q .number) (q .read) in
+    let second = marked-is s (q .number .end) 3 comma (n .number) (n .read) in
+    let third = marked-is s (n .number .end) 3 lineFeed (k .number) (k .read) in
     let nothing : drop (k .number .end) s ≡ [] = ap (λ i. drop i s) (eqb-true (k .number .end) (length s) (end .0)) ∙ drop-length s in
     let tail = third .0 ∙ ap (λ t. numeral (k .number .value) ++ (lineFeed ∷ t)) nothing in
     rw (end .1)
@@ -76,10 +76,10 @@ line-parsed : (s : List ℕ) (x : Settings) → IsSettingsLine s x → parsed s 
 unfolding settingsLine isDigit
 line-parsed s x l =
     let rest = numeral (x .n) ++ (comma ∷ numeral (x .k) ++ (lineFeed ∷ [])) in
-    let q = field-reads s 0 2 comma (x .q) rest refl (l .line) (l .q-short) (omega (arith, l .q-short)) in
-    let n = field-reads s (q .end) 2 comma (x .n) (numeral (x .k) ++ (lineFeed ∷ [])) refl (q .ahead) (l .n-short)
+    let q = marked-reads s 0 2 comma (x .q) rest refl (l .line) (l .q-short) (omega (arith, l .q-short)) in
+    let n = marked-reads s (q .end) 2 comma (x .n) (numeral (x .k) ++ (lineFeed ∷ [])) refl (q .ahead) (l .n-short)
     (omega (arith, l .n-short)) in
-    let k = field-reads s (n .end) 2 lineFeed (x .k) [] refl (n .ahead) (l .k-short) (omega (arith, l .k-short)) in
+    let k = marked-reads s (n .end) 2 lineFeed (x .k) [] refl (n .ahead) (l .k-short) (omega (arith, l .k-short)) in
     parsed-settings s _ (q .read) _ (n .read) _ (k .read) (last-end s (n .end) 3 lineFeed (x .k) k)
 
 never-both : (s : List ℕ) (x : Settings) → parsed s ≡ settings x → parsed s ≡ Malformed → ⊥

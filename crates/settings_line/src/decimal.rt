@@ -1,6 +1,6 @@
 // Decimal numbers read from a text at a cursor.
 ghost use mathlib.Core.Path.{_≡_};
-ghost use Rattle.settings_line.specs.Decimal.{isDigit, readAt, decimalAt, fieldAt};
+ghost use Rattle.settings_line.specs.Decimal.{isDigit, readAt, decimalAt, markedAt};
 
 // A number that was read, and the cursor past it.
 pub struct Numeral {
@@ -69,8 +69,8 @@ pub fn read_decimal(text: &[u8], at: usize, most: usize) -> Decimal
 }
 
 // The same number, where the byte `mark` follows it; the cursor is then past the mark.
-pub fn read_field(text: &[u8], at: usize, most: usize, mark: u8) -> Decimal
-    ensures { λ r. ⌜ r ≡ fieldAt (now (text .entry)) at most mark ⌝ }
+pub fn read_marked(text: &[u8], at: usize, most: usize, mark: u8) -> Decimal
+    ensures { λ r. ⌜ r ≡ markedAt (now (text .entry)) at most mark ⌝ }
 {
     let read = read_decimal(text, at, most);
     let Decimal::Number(numeral) = read else {

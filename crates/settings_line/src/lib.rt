@@ -40,15 +40,15 @@ pub enum Found {
 pub fn read_line(text: &[u8], at: usize) -> Found
     ensures { λ r. ⌜ r ≡ lineAt (now (text .entry)) at ⌝ }
 {
-    let first = decimal::read_field(text, at, MOST_DIGITS, b',');
+    let first = decimal::read_marked(text, at, MOST_DIGITS, b',');
     let Decimal::Number(q) = first else {
         return Found::None;
     };
-    let second = decimal::read_field(text, q.end, MOST_DIGITS, b',');
+    let second = decimal::read_marked(text, q.end, MOST_DIGITS, b',');
     let Decimal::Number(n) = second else {
         return Found::None;
     };
-    let third = decimal::read_field(text, n.end, MOST_DIGITS, b'\n');
+    let third = decimal::read_marked(text, n.end, MOST_DIGITS, b'\n');
     let Decimal::Number(k) = third else {
         return Found::None;
     };

@@ -1,8 +1,6 @@
 -- text: decimal numerals, and pieces of text put one after the other into a lent buffer.
 pub mod Text
-pub mod Rows
 pub mod Word
 pub mod Piece
-pub mod Writer
 pub mod Theorems
 pub mod laws

@@ -1,4 +1,3 @@
 -- Laws that the proofs cite; no part of the meaning.
 pub mod Numeral
 pub mod Piece
-pub mod Rows

@@ -10,14 +10,8 @@ ghost use Rattle.text.specs.Word.{letters};
 use crate::word;
 use crate::word::Word;
 
-// The bytes of the digit 0, the comma, the slash and the line feed.
+// The byte of the digit 0.
 pub const ZERO: u8 = 48;
-
-pub const COMMA: u8 = 44;
-
-pub const SLASH: u8 = 47;
-
-pub const LINE_FEED: u8 = 10;
 
 // How far the buffer is filled after a piece, and whether the piece fitted.
 pub struct Put {
@@ -26,7 +20,7 @@ pub struct Put {
 }
 
 // Whether `length` bytes have room from the place `at` on. The place is tested first, so one past the end has no room, and no number wraps.
-pub(crate) fn has_room(size: usize, at: usize, length: usize) -> bool
+pub fn has_room(size: usize, at: usize, length: usize) -> bool
     ensures { λ r. ⌜ r ≡ leb (at + length) size ⌝ }
 {
     if size < at {

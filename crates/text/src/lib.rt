@@ -1,5 +1,3 @@
-// Text as bytes: decimal numerals, and a writer of pieces of text.
+// Text as bytes: decimal numerals and words, put into a lent buffer.
 pub mod append;
-pub mod rows;
 pub mod word;
-pub mod writer;

@@ -1,5 +1,5 @@
 -- Calls with what each must answer, for the tables of examples.
---   Call        == a call with its arguments; matrices and rows are flat, row by row; t is the numbering; lent buffers are given as they are
+--   Call        == a call with its arguments; matrices and rows are flat, row by row; t is the numbering; a lent buffer is given as it is
 --                  before the call
 --   answer      == document 01's numbers for the call, by the definitions that the contracts cite: the refusal number (0 for none), then
 --                  what the call answers (count; index; dimension; 1 for "raised"), then the lent buffer or the receiver afterwards; of the
@@ -9,7 +9,6 @@
 --   lent size   == a buffer painted with 165s
 --   receiver, image == a receiver by its fields, entries of 0 after the given ones; and back
 -- Assumes nothing.
-use mathlib.Core.Bool.{Bool}
 use mathlib.Core.List.{List, [], _∷_, _++_}
 use Prim.Native.Nat.{ℕ, _*_, _-_, _^_}
 use lib.ListN.{length, replicate}
@@ -65,7 +64,8 @@ answer (draw q n k t i buffer) = drawRefusal q n k t i (length buffer) ∷ drawB
 answer (number q n k t m) = answerNumber (numberOf q n k t m) ∷ answerIndex (numberOf q n k t m) ∷ []
 answer (convert q n k from to i) = answerNumber (convertOf q n k from to i) ∷ answerIndex (convertOf q n k from to i) ∷ []
 answer (reduce q n r rows output) =
-    reductionNumber (reduceOf q n r rows (length output)) ∷ reductionDimension (reduceOf q n r rows (length output)) ∷ reduceBuffer q n r rows output
+    reductionNumber (reduceOf q n r rows (length output)) ∷ reductionDimension (reduceOf q n r rows (length output))
+    ∷ reduceBuffer q n r rows output
 answer (receive q n k t r rows) = received k (receiveOf q n k t r rows)
 answer (receiveC q n k t r rows bytes) = exportedNumber q n k t r rows (length bytes) ∷ exportedBytes q n k t r rows bytes
 answer (start q n k) = startNumber (startOf q n k) ∷ image ((startOf q n k) .receiver)

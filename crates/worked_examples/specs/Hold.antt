@@ -14,7 +14,7 @@ use Rattle.worked_examples.specs.Marked.{marked}
 use Rattle.worked_examples.specs.Readings.{readings}
 use Rattle.worked_examples.specs.Refusals.{refusals}
 use Rattle.counts.specs.Gaussian.{gaussian}
-use Rattle.settings.specs.Settings.{rowLengthOk, shapeOk, countOk, settingsRefusal, countOf}
+use Rattle.settings.specs.Settings.{rowLengthOk, rangeOk, countOk, settingsRefusal, countOf}
 use Rattle.field.specs.Field.{isFieldSize, add, multiply, negate, inverseFrom, invert}
 use Rattle.matrix.specs.Matrix.{leadFrom, lead, pivotAt, identifying, columnValue, entriesBelow, columnAlone, rowReduced, isReduced}
 use Rattle.matrix.specs.Shape.{cell, flatten}
@@ -42,11 +42,11 @@ use Rattle.receiver.specs.Receiver.{startOf, wellFormed, heldRows, holding, tak
 use Rattle.pandrwyg.specs.Exported.{bytesOf, exportedRefusal, exportedNumber, exportedOf, exportedBytes}
 use Rattle.text.specs.Piece.{placeAfter, bufferAfter}
 use Rattle.text.specs.Text.{numeralWithin, numeral}
-use Rattle.text.specs.Rows.{rowText, rowsText}
+use Rattle.rows_text.specs.Rows.{rowText, rowsText}
 use Rattle.listing.specs.Line.{lineText}
-use Rattle.settings_line.specs.Decimal.{isDigit, digitRun, reading, isNumeral, decimalAt, fieldAt}
+use Rattle.settings_line.specs.Decimal.{isDigit, digitRun, reading, isNumeral, decimalAt, markedAt}
 use Rattle.settings_line.specs.SettingsLine.{parsed}
-use Rattle.listing.specs.Listing.{listRefusal, listingLine, linesFrom, fieldNames, header, refusedWord, refusedLine, listingOutput}
+use Rattle.listing.specs.Listing.{listRefusal, listingLine, linesFrom, columnNames, header, refusedWord, refusedLine, listingOutput}
 use Rattle.basics.specs.All.{allBelow}
 use Rattle.basics.specs.Sum.{sum, sumRange, value}
 use Rattle.basics.specs.Table.{tabulate}
@@ -70,7 +70,18 @@ each (e ∷ es) same = more (ap (λ l. getD l 0 []) same) (each es (ap (drop 1) 
 
 -- all rows at once
 every : All Holds (marked ++ (readings ++ refusals))
-unfolding placeAfter bufferAfter listingOutput fieldNames header linesFrom listingLine listRefusal parsed fieldAt decimalAt digitRun isDigit reading isNumeral lineText numeral numeralWithin rowsText rowText gaussian rowLengthOk shapeOk countOk settingsRefusal countOf isFieldSize add multiply negate inverseFrom invert leadFrom lead pivotAt identifying columnValue entriesBelow columnAlone rowReduced isReduced topValue cell flatten onesAmong extendedTermAt extendedTerm extendedIndex extendedColumn extendedBefore extendedRank extendedShape drawnExtended partitionsRow partitions freeFrom freeColumns dots diagram total size dottedFrom tableauOf tableau tableauValue diagramTerm diagramPlace largerDiagrams ferrersIndex shapeSize boxCount shapePlace shapeTableau ferrersRank diagramShape sizedShape ferrersShape drawnFerrers leadOf eliminate residue monic putAmong insertResidue insertRow insertRows reducedRows join reducedOf dimension combinationAt combination InSpan SameSpan rowsOf HasDimension refuseUnless first unlessRefused isNumbering numberingOf choiceRefusal drawRefusal drawBuffer entriesRefusal numberRefusal numberOf reduceRefusal reduceBuffer spaceAnswer rowsRefusal receiveRefusal receiveOf allBelow sum sumRange value tabulate padded refusedWord refusedLine reduceOf convertRefusal convertNumber convertOf startOf wellFormed heldRows holding takeRefusal takenIn takeOf closeRefusal closeOf bytesOf exportedRefusal exportedNumber exportedOf exportedBytes spaceRefusal
+unfolding placeAfter bufferAfter listingOutput columnNames header linesFrom listingLine listRefusal parsed markedAt decimalAt digitRun
+    isDigit reading isNumeral lineText numeral numeralWithin rowsText rowText gaussian rowLengthOk rangeOk countOk settingsRefusal countOf
+    isFieldSize add multiply negate inverseFrom invert leadFrom lead pivotAt identifying columnValue entriesBelow columnAlone rowReduced
+    isReduced topValue cell flatten onesAmong extendedTermAt extendedTerm extendedIndex extendedColumn extendedBefore extendedRank
+    extendedShape drawnExtended partitionsRow partitions freeFrom freeColumns dots diagram total size dottedFrom tableauOf tableau
+    tableauValue diagramTerm diagramPlace largerDiagrams ferrersIndex shapeSize boxCount shapePlace shapeTableau ferrersRank diagramShape
+    sizedShape ferrersShape drawnFerrers leadOf eliminate residue monic putAmong insertResidue insertRow insertRows reducedRows join
+    reducedOf dimension combinationAt combination InSpan SameSpan rowsOf HasDimension refuseUnless first unlessRefused isNumbering
+    numberingOf choiceRefusal drawRefusal drawBuffer entriesRefusal numberRefusal numberOf reduceRefusal reduceBuffer spaceAnswer
+    rowsRefusal receiveRefusal receiveOf allBelow sum sumRange value tabulate padded refusedWord refusedLine reduceOf convertRefusal
+    convertNumber convertOf startOf wellFormed heldRows holding takeRefusal takenIn takeOf closeRefusal closeOf bytesOf exportedRefusal
+    exportedNumber exportedOf exportedBytes spaceRefusal
 every = each (marked ++ (readings ++ refusals)) refl
 
 front : {P : Example → Type 0} (xs ys : List Example) → All P (xs ++ ys) → All P xs

@@ -280,7 +280,9 @@ refusals =
     ∷ (list (48 ∷ 48 ∷ 48 ∷ 44 ∷ 51 ∷ 44 ∷ 49 ∷ 10 ∷ []) ⇒ refused11)
     ∷ (list (57 ∷ 57 ∷ 57 ∷ 44 ∷ 51 ∷ 44 ∷ 49 ∷ 10 ∷ []) ⇒ refused1)
     -- and where none applies the header and the lines: `/` stands between rows
-    ∷ (list (50 ∷ 44 ∷ 50 ∷ 44 ∷ 50 ∷ 10 ∷ []) ⇒ (101 ∷ 120 ∷ 116 ∷ 101 ∷ 110 ∷ 100 ∷ 101 ∷ 100 ∷ 44 ∷ 102 ∷ 101 ∷ 114 ∷ 114 ∷ 101 ∷ 114 ∷ 115 ∷ 44 ∷ 114 ∷ 111 ∷ 119 ∷ 115 ∷ 10 ∷ 48 ∷ 44 ∷ 48 ∷ 44 ∷ 49 ∷ 48 ∷ 47 ∷ 48 ∷ 49 ∷ 10 ∷ []))
+    ∷ (list (50 ∷ 44 ∷ 50 ∷ 44 ∷ 50 ∷ 10 ∷ []) ⇒
+    (101 ∷ 120 ∷ 116 ∷ 101 ∷ 110 ∷ 100 ∷ 101 ∷ 100 ∷ 44 ∷ 102 ∷ 101 ∷ 114 ∷ 114 ∷ 101 ∷ 114 ∷ 115 ∷ 44 ∷ 114 ∷ 111 ∷ 119 ∷ 115 ∷ 10
+    ∷ 48 ∷ 44 ∷ 48 ∷ 44 ∷ 49 ∷ 48 ∷ 47 ∷ 48 ∷ 49 ∷ 10 ∷ []))
     ∷ (list (48 ∷ 44 ∷ 51 ∷ 44 ∷ 49 ∷ 10 ∷ []) ⇒ refused1)
     -- the line writer, lent 320 bytes: a piece that exactly fills them fits, one byte more does not, and then all stays
     ∷ (write (lent 320) 316 (1 ∷ 2 ∷ 3 ∷ 4 ∷ []) ⇒ (1 ∷ 320 ∷ (replicate 316 165 ++ (1 ∷ 2 ∷ 3 ∷ 4 ∷ []))))

@@ -13,11 +13,11 @@ use Rattle.counts.proofs.coefficient.Tie as tie
 returns : tie.Need-returns
 returns c = let a = c .before .args in sym (ap capped (gaussian-none (a .q) (a .n) (a .k) (c .if1 .taken)))
 
-place-requires : tie.Need-place-requires
-place-requires c κs = search needs
+position-requires : tie.Need-position-requires
+position-requires c κs = search needs
 
 mul-count : tie.Need-mul-count
-mul-count c = let s = c .before .before in omega (arith, c .place .ensures, part-below (s .args .q) (s .pre .0))
+mul-count c = let s = c .before .before in omega (arith, c .position .ensures, part-below (s .args .q) (s .pre .0))
 
 half-place-requires : tie.Need-half-place-requires
 half-place-requires c κs = search needs
@@ -28,7 +28,7 @@ add-count c =
     let a = s .args in
     let part = part-below (a .q) (s .pre .0) in
     let half = half-below (a .n) (a .k) (s .pre .1) (c .before .before .if1 .left) in
-    omega (arith, c .before .place .ensures, part, c .half-place .ensures, half)
+    omega (arith, c .before .position .ensures, part, c .half-place .ensures, half)
 
 count-requires : tie.Need-count-requires
 count-requires c κs = search needs
@@ -39,8 +39,8 @@ returns-2 c =
     let s = found .before .before .before in
     let a = s .args in
     c .count .ensures
-    ∙ ap₂ (λ p h. getD halves (p * 81 + h) 0) (found .before .place .ensures) (found .half-place .ensures)
+    ∙ ap₂ (λ p h. getD halves (p * 81 + h) 0) (found .before .position .ensures) (found .half-place .ensures)
     ∙ half-at (a .q) (a .n) (a .k) (s .pre .0) (s .pre .1) (found .before .before .if1 .left)
 
 pub coefficient-spec : {M : Type 1} → statement M
-coefficient-spec = tie.close (tie.spec returns place-requires mul-count half-place-requires add-count count-requires returns-2)
+coefficient-spec = tie.close (tie.spec returns position-requires mul-count half-place-requires add-count count-requires returns-2)

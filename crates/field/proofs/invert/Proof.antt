@@ -9,8 +9,8 @@ use borrow.Author.Needs.{needs}
 use Rattle.field.proofs.invert.Statement.{statement}
 use Rattle.field.proofs.invert.Tie as tie
 
-place-requires : tie.Need-place-requires
-place-requires c κs = search needs
+position-requires : tie.Need-position-requires
+position-requires c κs = search needs
 
 remainder-requires : tie.Need-remainder-requires
 remainder-requires c κs = search needs
@@ -32,14 +32,14 @@ returns c =
     let r = c .before in
     let a = r .before .before .args in
     c .inverse-at .ensures
-    ∙ ap₂ (λ p x. getD inverses (p * 8 + x) 0) (r .before .place .ensures) (r .remainder .ensures)
+    ∙ ap₂ (λ p x. getD inverses (p * 8 + x) 0) (r .before .position .ensures) (r .remainder .ensures)
     ∙ inverse-at (a .q) (a .a)
 
 pub invert-spec : {M : Type 1} → statement M
 invert-spec =
     tie.close
     (tie.spec
-    place-requires
+    position-requires
     remainder-requires
     cast-at
     mul-inverse-at

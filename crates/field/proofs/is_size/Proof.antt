@@ -7,12 +7,12 @@ use Rattle.field.specs.Field.{fieldSizes, isFieldSize}
 use Rattle.field.proofs.is_size.Statement.{statement}
 use Rattle.field.proofs.is_size.Tie as tie
 
-place-requires : tie.Need-place-requires
-place-requires c κs = search needs
+position-requires : tie.Need-position-requires
+position-requires c κs = search needs
 
 returns : tie.Need-returns
 unfolding isFieldSize
-returns c = ap (λ p. ltb p 4) (c .place .ensures) ∙ position-member (c .before .args .q) fieldSizes
+returns c = ap (λ p. ltb p 4) (c .position .ensures) ∙ position-member (c .before .args .q) fieldSizes
 
 pub is-size-spec : {M : Type 1} → statement M
-is-size-spec = tie.close (tie.spec place-requires returns)
+is-size-spec = tie.close (tie.spec position-requires returns)

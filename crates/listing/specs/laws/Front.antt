@@ -1,6 +1,7 @@
 -- Laws of what is written to a buffer's front; no part of the meaning.
 --   written-length   == the buffer stays as long as it is
 --   written-more, -part == a further piece behind, and a piece written to the first bytes of what is left
+--   same-line        == what is said of a line, said of one that equals it
 --   composed-line, -front == a line put together that has room stands at the front: of the buffer, or of one whose first bytes it is lent
 -- Assumes nothing.
 use mathlib.Core.Path.{_≡_, ap, _∙_, sym}
@@ -30,12 +31,15 @@ written-part rest piece w h =
     ∙ ap (λ t. piece ++ t) (sym (drop-append-le (length piece) (take w rest) (drop w rest) h)
     ∙ ap (drop (length piece)) (take-append-drop w rest))
 
+pub same-line : (line same : List ℕ) (size : ℕ) (buffer after : List ℕ) → line ≡ same
+    → (size ≡ length line) × (after ≡ written line buffer) → (size ≡ length same) × (after ≡ written same buffer)
+same-line line same size buffer after e r = (r .0 ∙ ap length e, r .1 ∙ ap (λ t. written t buffer) e)
+
 -- a line that is put together, and has room, stands at the front
 pub composed-line : (buffer : List ℕ) (pieces : List (List ℕ)) (line : List ℕ) (size : ℕ) (after : List ℕ) → joined pieces ≡ line
     → length line ≤ length buffer → Composed buffer pieces size after → (size ≡ length line) × (after ≡ written line buffer)
 composed-line buffer pieces line size after e room c =
-    let r = pieces-put buffer pieces size after (rw e room) c in
-    (r .0 ∙ ap length e, r .1 ∙ ap (λ t. written t buffer) e)
+    same-line (joined pieces) line size buffer after e (pieces-put buffer pieces size after (rw e room) c)
 
 pub composed-front : (buffer : List ℕ) (w : ℕ) (pieces : List (List ℕ)) (line : List ℕ) (size : ℕ) (after : List ℕ) → joined pieces ≡ line
     → length line ≤ length (take w buffer) → Composed (take w buffer) pieces size after

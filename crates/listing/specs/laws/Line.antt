@@ -1,4 +1,5 @@
 -- Laws of a line; no part of the meaning.
+--   wordLine s   == a line of one word
 --   lineText-length == how many bytes a line has: those of its two numbers and its rows, two commas and a line feed
 --   line-short   == a line of listable settings has at most 276 bytes
 --   drawn-is-reduced, ferrers-inside == the drawn matrix is reduced, and its Ferrers index is below the count
@@ -6,7 +7,7 @@
 --   digit-rows   == the drawn matrix is one of decimal digits, as its text asks, whatever stands behind it
 -- Assumes nothing.
 use mathlib.Core.Path.{_≡_, ap, _∙_}
-use mathlib.Core.List.{List, _++_}
+use mathlib.Core.List.{List, [], _∷_, _++_}
 use mathlib.Core.Logic.{⊎-elim}
 use Prim.Native.Nat.{ℕ, _+_, _*_, _≤_, _<_}
 use native.Mathlib.Nat.{mul-le-mul}
@@ -22,13 +23,16 @@ use Rattle.extended.specs.Drawn.{drawnExtended}
 use Rattle.extended.specs.laws.Theorems.{drawn-reduced}
 use Rattle.ferrers.specs.Ferrers.{ferrersIndex}
 use Rattle.ferrers.specs.laws.Theorems.{index-below-count}
-use Rattle.text.specs.Text.{numeral}
-use Rattle.text.specs.Rows.{DigitRows, rowsText}
+use Rattle.text.specs.Text.{lineFeed, numeral}
+use Rattle.rows_text.specs.Rows.{DigitRows, rowsText}
 use Rattle.text.specs.laws.Numeral.{numeral-length}
-use Rattle.text.specs.laws.Rows.{rowsText-length}
+use Rattle.rows_text.specs.laws.Rows.{rowsText-length}
 use Rattle.listing.specs.Line.{longestLine, lineText}
 use Rattle.listing.specs.Listing.{greatestListing, listingLine}
 use Rattle.listing.specs.laws.Listing.{Listable}
+
+abbrev pub wordLine : List ℕ → List ℕ
+wordLine s = s ++ (lineFeed ∷ [])
 
 pub lineText-length : (extended ferrers n k : ℕ) (m : List ℕ)
     → length (lineText extended ferrers n k m) ≡ length (numeral extended) + length (numeral ferrers) + length (rowsText n k m) + 3

@@ -8,7 +8,7 @@
 --   after-none, after-further == the state after no step, and after one step more
 -- Assumes nothing.
 use mathlib.Core.Path.{_≡_, refl, ap, _∙_, sym}
-use mathlib.Core.Bool.{Bool, true, false, _&&_}
+use mathlib.Core.Bool.{true, false, and-false, and-eq-true-iff}
 use mathlib.Core.Logic.{⊎-elim}
 use mathlib.Core.List.{List, []}
 use Prim.Native.Nat.{ℕ, zero, suc, _+_, _-_, _≤_, _<_}
@@ -38,14 +38,10 @@ countOf p = gaussian (p .q) (p .n) (p .k)
 abbrev pub refusalOf : Progress → ℕ
 refusalOf p = listRefusal (p .q) (p .n) (p .k)
 
-both : (a b : Bool) → a && b ≡ true → (a ≡ true) × (b ≡ true)
-both true b e = (refl, e)
-both false b e = let z : _≡_ {A = ℕ} 0 1 = cc in absurd (omega arith)
-
 pub live-is : (p : Progress) → live p ≡ true → (refusalOf p ≡ 0) × (p .index .0 < countOf p)
 unfolding live
 live-is p e =
-    let t = both (eqb (refusalOf p) 0) (ltb (p .index .0) (countOf p)) e in
+    let t = and-eq-true-iff (eqb (refusalOf p) 0) (ltb (p .index .0) (countOf p)) .0 e in
     (eqb-true (refusalOf p) 0 (t .0), ltb-true (p .index .0) (countOf p) (t .1))
 
 pub is-live : (p : Progress) → refusalOf p ≡ 0 → p .index .0 < countOf p → live p ≡ true
@@ -59,10 +55,6 @@ refused-dead p r = rw (ne-eqb (refusalOf p) 0 r)
 pub past-dead : (p : Progress) → countOf p ≤ p .index .0 → live p ≡ false
 unfolding live
 past-dead p h = rw (le-ltb (p .index .0) (countOf p) h) (and-false (eqb (refusalOf p) 0))
-  where
-    and-false : (b : Bool) → b && false ≡ false
-    and-false true = refl
-    and-false false = refl
 
 pub end-short : (count i : ℕ) → count - i < chunkLines → linesEnd count i ≡ count
 unfolding linesEnd

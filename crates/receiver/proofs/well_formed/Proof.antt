@@ -12,7 +12,7 @@ use Rattle.settings.specs.Settings.{settingsRefusal}
 use Rattle.settings.specs.laws.Accepted.{accepted}
 use Rattle.matrix.specs.Matrix.{entriesBelow, identifying}
 use Rattle.receiver.specs.Receiver.{used, unused, wellFormed}
-use Rattle.receiver.specs.laws.WellFormed.{made, formed-settings, formed-dimension, formed-entries, formed-rest, formed-shape}
+use Rattle.receiver.specs.laws.WellFormed.{made, formed-settings, formed-dimension, formed-entries, formed-rest, formed-reduced}
 use Rattle.receiver.specs.laws.Sound.{used-fit}
 use Rattle.receiver.specs.declared.Receiver.{Receiver}
 use borrow.Author.Needs.{needs}
@@ -122,7 +122,7 @@ returns-5 c =
     let e = l .before .before .before in
     let b = begun e in
     let z = sym (rest-told (l .before)) ∙ not-false _ (l .if4 .left) in
-    let f = formed-shape _ (settled (b .before)) (low b) (entries-fit e) z in
+    let f = formed-reduced _ (settled (b .before)) (low b) (entries-fit e) z in
     let found = c .reduced-vector .ensures in
     (found .0 ∙ f, found .1 ∙ tells _ _ f)
 

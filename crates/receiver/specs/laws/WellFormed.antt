@@ -1,6 +1,6 @@
 -- `receiver::well_formed`: the test of a receiver, part by part; no part of the meaning.
 --   formed-settings, -dimension, -entries, -rest == a part that fails, after those before it
---   formed-shape            == the last part, after all others
+--   formed-reduced            == the last part, after all others
 --   made q n k d entries == the receiver of these settings, dimension and entries
 -- Assumes nothing.
 use mathlib.Core.Path.{_≡_}
@@ -35,7 +35,7 @@ module _ (r : Receiver) where
       unfolding wellFormed
       formed-rest b z = rw (eq-eqb (settingsRefusal (r .q) (r .n) (r .k)) 0 s, le-leb (r .dimension) (r .n) h, b, z)
 
-      pub formed-shape : entriesBelow (r .q) (used r) ≡ true → entriesBelow 1 (unused r) ≡ true
+      pub formed-reduced : entriesBelow (r .q) (used r) ≡ true → entriesBelow 1 (unused r) ≡ true
           → isReduced (r .n) (r .dimension) (used r) ≡ wellFormed r
       unfolding wellFormed
-      formed-shape b z = rw (eq-eqb (settingsRefusal (r .q) (r .n) (r .k)) 0 s, le-leb (r .dimension) (r .n) h, b, z)
+      formed-reduced b z = rw (eq-eqb (settingsRefusal (r .q) (r .n) (r .k)) 0 s, le-leb (r .dimension) (r .n) h, b, z)

@@ -11,7 +11,7 @@ use borrow.Author.Tests.{eq-eqb, le-leb, eqb-true, leb-true}
 use lib.Dec.{T, eqb, leb}
 use lib.ListN.{length}
 use Rattle.basics.specs.laws.Choice.{holds}
-use Rattle.refusal.specs.Refusal.{fieldSizeRefusal, shapeRefusal, lengthRefusal, entryRefusal, rowCountRefusal, refuseUnless, unlessRefused}
+use Rattle.refusal.specs.Refusal.{fieldSizeRefusal, rangeRefusal, lengthRefusal, entryRefusal, rowCountRefusal, refuseUnless, unlessRefused}
 use Rattle.refusal.specs.laws.First.{test-zero, test-passed, first-none, told-number, told-value}
 use Rattle.field.specs.Field.{isFieldSize}
 use Rattle.settings.specs.Settings.{rowLengthOk}
@@ -39,8 +39,8 @@ module _ (q n r : ℕ) (input : List ℕ) (size : ℕ) where
       let output = refuseUnless (eqb size (n * n)) lengthRefusal ∷ entries in
       let bytes = refuseUnless (eqb (length input) (r * n)) lengthRefusal ∷ output in
       let count = refuseUnless (leb r mostRows) rowCountRefusal ∷ bytes in
-      let f = test-zero (isFieldSize q) fieldSizeRefusal (refuseUnless (rowLengthOk n) shapeRefusal ∷ count) tt e in
-      let l = test-zero (rowLengthOk n) shapeRefusal count tt (f .1) in
+      let f = test-zero (isFieldSize q) fieldSizeRefusal (refuseUnless (rowLengthOk n) rangeRefusal ∷ count) tt e in
+      let l = test-zero (rowLengthOk n) rangeRefusal count tt (f .1) in
       let c = test-zero (leb r mostRows) rowCountRefusal bytes tt (l .1) in
       let i = test-zero (eqb (length input) (r * n)) lengthRefusal output tt (c .1) in
       let o = test-zero (eqb size (n * n)) lengthRefusal entries tt (i .1) in

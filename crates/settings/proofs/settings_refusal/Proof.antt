@@ -7,7 +7,7 @@ use borrow.Author.Tests.{not-true, not-false, lt-leb}
 use Rattle.basics.specs.laws.Choice.{holds}
 use Rattle.field.specs.Field.{isFieldSize}
 use Rattle.refusal.specs.laws.First.{test-refused, test-passed}
-use Rattle.settings.specs.Settings.{rowLengthOk, shapeOk, settingsRefusal}
+use Rattle.settings.specs.Settings.{rowLengthOk, rangeOk, settingsRefusal}
 use Rattle.settings.specs.laws.Accepted.{row-length-fits, count-accepted, count-refused}
 use Rattle.settings.proofs.settings_refusal.Statement.{statement}
 use Rattle.settings.proofs.settings_refusal.Tie as tie
@@ -29,13 +29,13 @@ row-length-ok-requires : tie.Need-row-length-ok-requires
 row-length-ok-requires c κs = search needs
 
 returns-2 : tie.Need-returns-2
-unfolding settingsRefusal shapeOk
+unfolding settingsRefusal rangeOk
 returns-2 c =
     let row = sym (c .before .row-length-ok .ensures) ∙ not-true _ (c .if2 .taken) in
     sym (test-passed _ _ _ (sized (c .before .before)) ∙ test-refused _ _ _ tt (rw row))
 
 returns-3 : tie.Need-returns-3
-unfolding settingsRefusal shapeOk
+unfolding settingsRefusal rangeOk
 returns-3 c =
     let a = c .before .before .before .before .before .args in
     let wide = lt-leb (a .k) (a .n) (omega (arith, row-length-fits _ (long-enough (c .before)) .1, c .if3 .taken)) in

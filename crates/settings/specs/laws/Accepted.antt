@@ -17,12 +17,12 @@ use Rattle.basics.specs.Choice.{pick}
 use Rattle.basics.specs.laws.Choice.{is-true, holds}
 use Rattle.basics.specs.laws.Order.{le-or-lt}
 use Rattle.basics.specs.laws.Test.{and-left, and-right}
-use Rattle.refusal.specs.Refusal.{fieldSizeRefusal, shapeRefusal, countRefusal, refuseUnless, unlessRefused}
+use Rattle.refusal.specs.Refusal.{fieldSizeRefusal, rangeRefusal, countRefusal, refuseUnless, unlessRefused}
 use Rattle.refusal.specs.laws.First.{test-refused, test-passed, test-zero, first-none, told-number, told-value}
 use Rattle.field.specs.Field.{isFieldSize}
 use Rattle.counts.specs.Gaussian.{gaussian, greatestCount, tableEntry}
 use Rattle.counts.specs.laws.GaussianLaws.{gaussian-positive, entry-within}
-use Rattle.settings.specs.Settings.{rowLengthOk, shapeOk, countOk, settingsRefusal, countOf, countNumber, countValue}
+use Rattle.settings.specs.Settings.{rowLengthOk, rangeOk, countOk, settingsRefusal, countOf, countNumber, countValue}
 use Rattle.settings.specs.declared.Counted.{Counted}
 use Rattle.settings.specs.declared.Counted.the-variants.{Count, Refused}
 
@@ -41,23 +41,23 @@ row-length-fits n r =
 
 module _ (q n k : ℕ) where
   -- the tests as they come to nothing
-  unrefused : isFieldSize q ≡ true → shapeOk n k ≡ true → countOk q n k ≡ true → settingsRefusal q n k ≡ 0
+  unrefused : isFieldSize q ≡ true → rangeOk n k ≡ true → countOk q n k ≡ true → settingsRefusal q n k ≡ 0
   unfolding settingsRefusal
   unrefused s h c = test-passed _ _ _ s ∙ test-passed _ _ _ h ∙ test-passed _ _ _ c ∙ first-none
 
   pub not-refused : Accepted q n k → settingsRefusal q n k ≡ 0
-  unfolding shapeOk countOk rowLengthOk
+  unfolding rangeOk countOk rowLengthOk
   not-refused a =
       unrefused (is-true (isFieldSize q) (a .size)) (rw (le-leb 1 n (a .row), le-leb n 16 (a .narrow), le-leb k n (a .dimension)))
       (le-leb (gaussian q n k) greatestCount (a .counted))
 
   pub accepted : settingsRefusal q n k ≡ 0 → Accepted q n k
-  unfolding settingsRefusal shapeOk countOk
+  unfolding settingsRefusal rangeOk countOk
   accepted e =
       let more = refuseUnless (countOk q n k) countRefusal ∷ [] in
-      let s = test-zero (isFieldSize q) fieldSizeRefusal (refuseUnless (shapeOk n k) shapeRefusal ∷ more) tt e in
-      let h = test-zero (shapeOk n k) shapeRefusal more tt (s .1) in
-      let t = holds (shapeOk n k) (h .0) in
+      let s = test-zero (isFieldSize q) fieldSizeRefusal (refuseUnless (rangeOk n k) rangeRefusal ∷ more) tt e in
+      let h = test-zero (rangeOk n k) rangeRefusal more tt (s .1) in
+      let t = holds (rangeOk n k) (h .0) in
       let fits = row-length-fits n (is-true (rowLengthOk n) (and-left (rowLengthOk n) (leb k n) t)) in
       record {
         size = holds (isFieldSize q) (s .0);
@@ -80,7 +80,7 @@ module _ (q n k : ℕ) where
       })
 
   pub count-refused : isFieldSize q ≡ true → rowLengthOk n ≡ true → k ≤ n → tableEntry q n k ≡ 0 → settingsRefusal q n k ≡ countRefusal
-  unfolding settingsRefusal shapeOk countOk
+  unfolding settingsRefusal rangeOk countOk
   count-refused s r d c =
       ⊎-elim
       (λ l.

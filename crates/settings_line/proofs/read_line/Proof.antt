@@ -1,7 +1,7 @@
--- `settings_line::read_line` meets its contract: three fields one after the other.
+-- `settings_line::read_line` meets its contract: three numbers one after the other, each with its mark.
 use mathlib.Core.Path.{_≡_, _∙_, sym}
 use Rattle.text.specs.Text.{comma, lineFeed}
-use Rattle.settings_line.specs.Decimal.{fieldAt}
+use Rattle.settings_line.specs.Decimal.{markedAt}
 use Rattle.settings_line.specs.laws.Parse.{line-first, line-second, line-third, line-whole}
 use Rattle.settings_line.specs.declared.decimal.Decimal.the-variants.{Number}
 use borrow.Author.Needs.{needs}
@@ -9,25 +9,25 @@ use Rattle.settings_line.proofs.read_line.Statement.{statement}
 use Rattle.settings_line.proofs.read_line.Tie as tie
 
 first-read : (c : tie.After-known-told)
-    → fieldAt (c .before .before .before .before .before .args .text .now) (c .before .before .before .before .before .args .at) 3 comma ≡
+    → markedAt (c .before .before .before .before .before .args .text .now) (c .before .before .before .before .before .args .at) 3 comma ≡
     Number (c .before .first .given .0 .0)
-first-read c = sym (c .before .before .before .read-field .ensures) ∙ c .before .first .given .1
+first-read c = sym (c .before .before .before .read-marked .ensures) ∙ c .before .first .given .1
 
 second-read : (c : tie.After-known-told2)
     → let d = c .before .before .before .before in
-    fieldAt (d .before .before .before .before .before .args .text .now) (d .before .first .given .0 .0 .end) 3 comma ≡ Number
+    markedAt (d .before .before .before .before .before .args .text .now) (d .before .first .given .0 .0 .end) 3 comma ≡ Number
     (c .before .second .given .0 .0)
-second-read c = sym (c .before .before .before .read-field2 .ensures) ∙ c .before .second .given .1
+second-read c = sym (c .before .before .before .read-marked2 .ensures) ∙ c .before .second .given .1
 
 third-read : (c : tie.After-known-told3)
     → let e = c .before .before .before .before in
     let d = e .before .before .before .before in
-    fieldAt (d .before .before .before .before .before .args .text .now) (e .before .second .given .0 .0 .end) 3 lineFeed ≡ Number
+    markedAt (d .before .before .before .before .before .args .text .now) (e .before .second .given .0 .0 .end) 3 lineFeed ≡ Number
     (c .before .third .given .0 .0)
-third-read c = sym (c .before .before .before .read-field3 .ensures) ∙ c .before .third .given .1
+third-read c = sym (c .before .before .before .read-marked3 .ensures) ∙ c .before .third .given .1
 
-read-field-requires : tie.Need-read-field-requires
-read-field-requires c κs = search needs
+read-marked-requires : tie.Need-read-marked-requires
+read-marked-requires c κs = search needs
 
 enum-known-first : tie.Need-enum-known-first
 enum-known-first c = search needs
@@ -36,10 +36,10 @@ enum-told : tie.Need-enum-told
 enum-told c = search needs
 
 returns : tie.Need-returns
-returns c = let d = c .before .before in sym (line-first _ _ (sym (d .read-field .ensures) ∙ c .enum-told .given .1))
+returns c = let d = c .before .before in sym (line-first _ _ (sym (d .read-marked .ensures) ∙ c .enum-told .given .1))
 
-read-field-requires-2 : tie.Need-read-field-requires-2
-read-field-requires-2 c κs = search needs
+read-marked-requires-2 : tie.Need-read-marked-requires-2
+read-marked-requires-2 c κs = search needs
 
 enum-known-second : tie.Need-enum-known-second
 enum-known-second c = search needs
@@ -50,10 +50,10 @@ enum-told-2 c = search needs
 returns-2 : tie.Need-returns-2
 returns-2 c =
     let d = c .before .before in
-    sym (line-second _ _ _ (first-read (d .before)) (sym (d .read-field2 .ensures) ∙ c .enum-told2 .given .1))
+    sym (line-second _ _ _ (first-read (d .before)) (sym (d .read-marked2 .ensures) ∙ c .enum-told2 .given .1))
 
-read-field-requires-3 : tie.Need-read-field-requires-3
-read-field-requires-3 c κs = search needs
+read-marked-requires-3 : tie.Need-read-marked-requires-3
+read-marked-requires-3 c κs = search needs
 
 enum-known-third : tie.Need-enum-known-third
 enum-known-third c = search needs
@@ -67,7 +67,7 @@ returns-3 c =
     let e = d .before in
     sym
     (line-third _ _ _ (first-read (e .before .before .before .before)) _ (second-read e)
-    (sym (d .read-field3 .ensures) ∙ c .enum-told3 .given .1))
+    (sym (d .read-marked3 .ensures) ∙ c .enum-told3 .given .1))
 
 returns-4 : tie.Need-returns-4
 returns-4 c =
@@ -78,15 +78,15 @@ pub read-line-spec : {M : Type 1} → statement M
 read-line-spec =
     tie.close
     (tie.spec
-    read-field-requires
+    read-marked-requires
     enum-known-first
     enum-told
     returns
-    read-field-requires-2
+    read-marked-requires-2
     enum-known-second
     enum-told-2
     returns-2
-    read-field-requires-3
+    read-marked-requires-3
     enum-known-third
     enum-told-3
     returns-3

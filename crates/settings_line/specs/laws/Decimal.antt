@@ -3,7 +3,7 @@
 --   read-number     == what is read is the number of the digits there, and the test holds
 --   decimal-unread  == nothing is read where the digits make too great a number
 --   decimal-inside, -empty, -long, -single, -zero-led, -led == what is read where they make the number x, by their number and first byte
---   field-unread, -open, -other, -marked == what is read with the byte behind it
+--   marked-unread, -open, -other, -read == what is read with the byte behind it
 -- Assumes nothing.
 use mathlib.Core.Path.{_≡_, refl, ap, ap₂, _∙_, sym}
 use mathlib.Core.Bool.{Bool, true, false, _&&_, _||_}
@@ -16,7 +16,7 @@ use lib.Dec.{leb, eqb}
 use lib.ListN.{length, getD, drop, length-drop}
 use lib.Seq.{getD-drop}
 use Rattle.basics.specs.Choice.{pick}
-use Rattle.settings_line.specs.Decimal.{isDigit, digitRun, reading, isNumeral, greatest, readIf, readAt, decimalAt, marked, fieldAt}
+use Rattle.settings_line.specs.Decimal.{isDigit, digitRun, reading, isNumeral, greatest, readIf, readAt, decimalAt, marked, markedAt}
 use Rattle.settings_line.specs.declared.decimal.Numeral.{Numeral}
 use Rattle.settings_line.specs.declared.decimal.Decimal.the-variants.{Number, None}
 
@@ -119,20 +119,20 @@ module _ (text : List ℕ) (at most : ℕ) (x : Numeral) (e : readAt text at ≡
       let size = read-size in
       decimal-read true (numeral-led most _ (omega arith) (omega arith) (λ f. z (sym (first-byte h) ∙ f)))
 
-pub field-unread : (text : List ℕ) (at most mark : ℕ) → decimalAt text at most ≡ None → fieldAt text at most mark ≡ None
-unfolding fieldAt
-field-unread text at most mark e = ap (marked text mark) e
+pub marked-unread : (text : List ℕ) (at most mark : ℕ) → decimalAt text at most ≡ None → markedAt text at most mark ≡ None
+unfolding markedAt
+marked-unread text at most mark e = ap (marked text mark) e
 
 module _ (text : List ℕ) (at most mark : ℕ) (x : Numeral) (e : decimalAt text at most ≡ Number x) where
-  pub field-open : length text ≤ x .end → fieldAt text at most mark ≡ None
-  unfolding fieldAt
-  field-open h = ap (marked text mark) e ∙ rw (le-ltb (x .end) (length text) h)
+  pub marked-open : length text ≤ x .end → markedAt text at most mark ≡ None
+  unfolding markedAt
+  marked-open h = ap (marked text mark) e ∙ rw (le-ltb (x .end) (length text) h)
 
-  pub field-other : x .end < length text → (getD text (x .end) 0 ≡ mark → ⊥) → fieldAt text at most mark ≡ None
-  unfolding fieldAt
-  field-other h o = ap (marked text mark) e ∙ rw (lt-ltb (x .end) (length text) h, ne-eqb (getD text (x .end) 0) mark o)
+  pub marked-other : x .end < length text → (getD text (x .end) 0 ≡ mark → ⊥) → markedAt text at most mark ≡ None
+  unfolding markedAt
+  marked-other h o = ap (marked text mark) e ∙ rw (lt-ltb (x .end) (length text) h, ne-eqb (getD text (x .end) 0) mark o)
 
-  pub field-marked : x .end < length text → getD text (x .end) 0 ≡ mark
-      → fieldAt text at most mark ≡ Number (record { value = x .value; end = x .end + 1 })
-  unfolding fieldAt
-  field-marked h o = ap (marked text mark) e ∙ rw (lt-ltb (x .end) (length text) h, eq-eqb (getD text (x .end) 0) mark o)
+  pub marked-read : x .end < length text → getD text (x .end) 0 ≡ mark
+      → markedAt text at most mark ≡ Number (record { value = x .value; end = x .end + 1 })
+  unfolding markedAt
+  marked-read h o = ap (marked text mark) e ∙ rw (lt-ltb (x .end) (length text) h, eq-eqb (getD text (x .end) 0) mark o)

@@ -1,8 +1,8 @@
--- What stands at a cursor, field by field, and what a text is found to be; no part of the meaning.
---   line-first, -second, -third == no line, where that field is not read. line-whole == the line, where all are
+-- What stands at a cursor, number by number, and what a text is found to be; no part of the meaning.
+--   line-first, -second, -third == no line, where that number is not read. line-whole == the line, where all are
 --   whole size found   == the settings of the line that was found, where it ends the text
 --   parsed-line        == a text is found to be what stands at its start, where that ends it
---   parsed-settings    == the settings, where all fields are read and end the text
+--   parsed-settings    == the settings, where all numbers are read and end the text
 -- Assumes nothing.
 use mathlib.Core.Path.{_≡_, refl}
 use mathlib.Core.List.{List}
@@ -12,7 +12,7 @@ use lib.Dec.{eqb}
 use lib.ListN.{length}
 use Rattle.basics.specs.Choice.{pick}
 use Rattle.text.specs.Text.{comma, lineFeed}
-use Rattle.settings_line.specs.Decimal.{fieldAt}
+use Rattle.settings_line.specs.Decimal.{markedAt}
 use Rattle.settings_line.specs.SettingsLine.{after, next, lineAt, parsed}
 use Rattle.settings_line.specs.declared.decimal.Numeral.{Numeral}
 use Rattle.settings_line.specs.declared.decimal.Decimal.{Decimal}
@@ -23,21 +23,21 @@ use Rattle.settings_line.specs.declared.Parsed.{Parsed}
 use Rattle.settings_line.specs.declared.Parsed.the-variants.{Settings as settings, Malformed}
 
 module _ (s : List ℕ) (at : ℕ) where
-  pub line-first : fieldAt s at 3 comma ≡ None → lineAt s at ≡ nothing
+  pub line-first : markedAt s at 3 comma ≡ None → lineAt s at ≡ nothing
   unfolding lineAt
   line-first e = rw e
 
-  module _ (q : Numeral) (e : fieldAt s at 3 comma ≡ Number q) where
-    pub line-second : fieldAt s (q .end) 3 comma ≡ None → lineAt s at ≡ nothing
+  module _ (q : Numeral) (e : markedAt s at 3 comma ≡ Number q) where
+    pub line-second : markedAt s (q .end) 3 comma ≡ None → lineAt s at ≡ nothing
     unfolding lineAt
     line-second f = rw (e, f)
 
-    module _ (n : Numeral) (f : fieldAt s (q .end) 3 comma ≡ Number n) where
-      pub line-third : fieldAt s (n .end) 3 lineFeed ≡ None → lineAt s at ≡ nothing
+    module _ (n : Numeral) (f : markedAt s (q .end) 3 comma ≡ Number n) where
+      pub line-third : markedAt s (n .end) 3 lineFeed ≡ None → lineAt s at ≡ nothing
       unfolding lineAt
       line-third g = rw (e, f, g)
 
-      pub line-whole : (k : Numeral) → fieldAt s (n .end) 3 lineFeed ≡ Number k
+      pub line-whole : (k : Numeral) → markedAt s (n .end) 3 lineFeed ≡ Number k
           → lineAt s at ≡ line (record { settings = record { q = q .value; n = n .value; k = k .value }; end = k .end })
       unfolding lineAt
       line-whole k g = rw (e, f, g)
@@ -54,12 +54,12 @@ whole-next size None f g h = refl
 pub parsed-line : (s : List ℕ) → parsed s ≡ whole (length s) (lineAt s 0)
 unfolding parsed lineAt
 parsed-line s =
-    whole-next (length s) (fieldAt s 0 3 comma) _ _
-    (λ q. whole-next (length s) (fieldAt s (q .end) 3 comma) _ _
-    (λ n. whole-next (length s) (fieldAt s (n .end) 3 lineFeed) _ _ (λ k. refl)))
+    whole-next (length s) (markedAt s 0 3 comma) _ _
+    (λ q. whole-next (length s) (markedAt s (q .end) 3 comma) _ _
+    (λ n. whole-next (length s) (markedAt s (n .end) 3 lineFeed) _ _ (λ k. refl)))
 
-pub parsed-settings : (s : List ℕ) (q : Numeral) → fieldAt s 0 3 comma ≡ Number q → (n : Numeral) → fieldAt s (q .end) 3 comma ≡ Number n
-    → (k : Numeral) → fieldAt s (n .end) 3 lineFeed ≡ Number k → k .end ≡ length s
+pub parsed-settings : (s : List ℕ) (q : Numeral) → markedAt s 0 3 comma ≡ Number q → (n : Numeral) → markedAt s (q .end) 3 comma ≡ Number n
+    → (k : Numeral) → markedAt s (n .end) 3 lineFeed ≡ Number k → k .end ≡ length s
     → parsed s ≡ settings (record { q = q .value; n = n .value; k = k .value })
 unfolding parsed
 parsed-settings s q e n f k g h = rw (e, f, g, eq-eqb (k .end) (length s) h)

@@ -4,10 +4,11 @@
 --   bufferAfter-length, bufferWith-length == the buffer stays as long as it is
 --   with-room          == pieces that have room together stand one after the other
 --   pieces-put         == so at the buffer's front, with the rest as it was
+--   front-put          == the front of a buffer in which two pieces are put one after the other
 -- Assumes nothing.
 use mathlib.Core.Path.{_≡_, refl, ap, ap₂, _∙_, sym}
 use mathlib.Core.Bool.{Bool, true, false}
-use mathlib.Core.List.{List, [], _∷_, _++_, append-assoc}
+use mathlib.Core.List.{List, [], _∷_, _++_, append-assoc, append-nil}
 use mathlib.Core.Logic.{⊎-elim}
 use Prim.Native.Nat.{ℕ, _+_, _-_, _≤_}
 use native.Mathlib.Nat.{add-zero, zero-add, add-assoc, le-refl}
@@ -15,7 +16,7 @@ use native.Mathlib.Omega.{arith}
 use borrow.Author.Tests.{le-leb, lt-leb}
 use lib.Dec.{leb}
 use lib.ListN.{length, take, drop, length-append}
-use lib.Seq.{paste, paste-zero, take-paste, drop-paste, drop-drop, take-length, length-paste}
+use lib.Seq.{paste, paste-zero, take-paste, drop-paste, drop-drop, take-at, take-length, length-paste}
 use Rattle.basics.specs.laws.Order.{le-or-lt}
 use Rattle.text.specs.Piece.{fits, placeAfter, bufferAfter, joined, placeWith, bufferWith, Appended, Composed}
 use Rattle.text.specs.Theorems.{piece-fits, fits-piece}
@@ -80,3 +81,14 @@ pieces-put buffer pieces size after h c =
       c .0 ∙ r .0 ∙ zero-add (length (joined pieces)),
       c .1 ∙ r .1 ∙ ap₂ (λ p i. p ++ drop i buffer) (take-length (joined pieces)) (zero-add (length (joined pieces))),
     )
+
+pub front-put : (buffer : List ℕ) (p : List ℕ) (q : List ℕ) (place : ℕ) (middle : List ℕ) (size : ℕ) (after : List ℕ)
+    → length p + length q ≤ length buffer
+    → place ≡ placeAfter (length buffer) 0 p → middle ≡ bufferAfter buffer 0 p
+    → size ≡ placeAfter (length middle) place q → after ≡ bufferAfter middle place q → take size after ≡ p ++ q
+front-put buffer p q place middle size after h at b s a =
+    let whole : joined (p ∷ q ∷ []) ≡ p ++ q = ap (λ t. p ++ t) (append-nil q) in
+    let room : length (joined (p ∷ q ∷ [])) ≤ length buffer = omega (arith, ap length whole, length-append p q) in
+    let r = pieces-put buffer (p ∷ q ∷ []) size after room
+    (s ∙ ap₂ (λ m l. placeAfter (length m) l q) b at, a ∙ ap₂ (λ m l. bufferAfter m l q) b at) in
+    ap (take size) (r .1) ∙ take-at (joined (p ∷ q ∷ [])) (drop (length (joined (p ∷ q ∷ []))) buffer) size (sym (r .0)) ∙ whole

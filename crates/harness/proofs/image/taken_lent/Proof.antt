@@ -16,9 +16,11 @@ use prog.Wp.{Heap, Calls, Loops, WpFn, Tables}
 use ghost.Atoms.{Atoms, sem}
 use contract.Monad.{Fun, fact}
 use contract.Running.{givenOf, tables, tablesOf}
-use types.Kit.{Given, Item, Step, step, prop, ‵, raw, given, _⊛_, some, later, _$_, _∵_, !, qed, by, move, drop, use1, use2, use3, split, join, pick, learn, check, rewrite, fsplit, fjoin, fpick, fpack, suffices, frame, await, done}
+use types.Kit.{Given, Item, Step, step, prop, ‵, raw, given, _⊛_, some, later, _$_, _∵_, !, qed, by, move, drop, use1, use2, use3, split}
+use types.Kit.{join, pick, learn, check, rewrite, fsplit, fjoin, fpick, fpack, suffices, frame, await, done}
 use types.Tokens.{lft-new, lft-end}
-use types.Run.{look, init, forget, stop, from, load, addr, and-then, no-more, of-opd, assigns, land, returns, enter, alloc1, alloc0, params1, pass1, pass0, free1, free0}
+use types.Run.{look, init, forget, stop, from, load, addr, and-then, no-more, of-opd, assigns, land, returns, enter, alloc1, alloc0}
+use types.Run.{params1, pass1, pass0, free1, free0}
 use types.Part.{agg}
 use types.SemTy.{Body}
 use sound.WpLaws.{FmC, fmOf, WpFn-mono}
@@ -79,8 +81,16 @@ handed = LL.val U.the-type U′.the-laws
 abbrev both : Receiver → TakeAnswer → Taken
 both y t = record { receiver = y; answer = t }
 
-both-is : (y : Receiver) (t : TakeAnswer) (us : List Val) → Is T.the-row y (vals y) → Is S.the-row t us → Is U.the-row (both y t) (handed (both y t) ∷ [])
-both-is y t us y-is t-is = LL.owes U.the-type U′.the-laws (both y t) (y-is, (subst (Is S.the-row t) (EL.tells S.the-type S′.the-laws t us t-is) t-is, tt))
+both-is : (y : Receiver) (t : TakeAnswer) (us : List Val) → Is T.the-row y (vals y) → Is S.the-row t us
+    → Is U.the-row (both y t) (handed (both y t) ∷ [])
+both-is y t us y-is t-is = LL.owes U.the-type U′.the-laws (both y t) (
+  y-is,
+  (
+    subst (Is S.the-row t)
+        (EL.tells S.the-type S′.the-laws t us t-is) t-is,
+    tt,
+  ),
+)
 
 -- a goal P ∗ emp, as a function with no `ensures` has it: P is left
 and-nothing : {M : Type 1} {𝓤 : URA M} {H : Heap 𝓤} {A : Atoms 𝓤} {K : Type 0} {W : Given 𝓤 H A} {Γ : List (Item 𝓤)}
@@ -93,14 +103,17 @@ Lent 𝓤 H A mem run = tripleOf 𝓤 H A take-lent.signature (take-lent.spec �
 
 module _ {M : Type 1} (𝓤 : URA M) (H : Heap 𝓤) (A : Atoms 𝓤) (W : Given 𝓤 H A) (b : ℕ) where
   -- a local that holds a receiver is memory in which the receiver lies
-  lies-in : (h : Receiver) → Is T.the-row h (vals h) → ent 𝓤 (sem 𝓤 H A (fat fullShare T′.mir b 0 (val h))) (sem 𝓤 H A (mem T.the-row .lies h b 0))
+  lies-in : (h : Receiver) → Is T.the-row h (vals h) → ent 𝓤 (sem 𝓤 H A (fat fullShare T′.mir b 0 (val h)))
+      (sem 𝓤 H A (mem T.the-row .lies h b 0))
   unfolding partOf
   lies-in h is =
-      qed W (‵ (fat fullShare T′.mir b 0 (val h)) ∷ []) ∵ use1 W (‵ (cellAt fullShare (T.the-row .mir) (vals h) b 0)) (W .laws .at-raw fullShare T′.mir b 0 (val h)) $
+      qed W (‵ (fat fullShare T′.mir b 0 (val h)) ∷ []) ∵ use1 W (‵ (cellAt fullShare (T.the-row .mir) (vals h) b 0))
+      (W .laws .at-raw fullShare T′.mir b 0 (val h)) $
       owned ! T.the-row (Is T.the-row) (LL.makes T.the-type T′.the-plain 𝓤 H A) h (vals h) is $ move ! (1 ∷ 0 ∷ []) $ fjoin ! $
       fpack ! (List Val) (λ us. fsep (cellAt fullShare (T.the-row .mir) us b 0) (T.the-row .own h us)) (vals h) $ done !
 
-  lies-out : (h : Receiver) → ent 𝓤 (sem 𝓤 H A (mem T.the-row .lies h b 0)) (guard 𝓤 (Is T.the-row h (vals h)) (sem 𝓤 H A (fat fullShare T′.mir b 0 (val h))))
+  lies-out : (h : Receiver) → ent 𝓤 (sem 𝓤 H A (mem T.the-row .lies h b 0)) (guard 𝓤 (Is T.the-row h (vals h))
+      (sem 𝓤 H A (fat fullShare T′.mir b 0 (val h))))
   unfolding partOf
   lies-out h =
       qed W (‵ (mem T.the-row .lies h b 0) ∷ []) ∵ fpick ! (λ vs. fsplit ! $
@@ -108,7 +121,8 @@ module _ {M : Type 1} (𝓤 : URA M) (H : Heap 𝓤) (A : Atoms 𝓤) (W : Given
       peeks ! T.the-row (Is T.the-row) (shows 𝓤 H A T.the-row) h (vals h) (λ is. drop ! $
       use1 W (‵ (fat fullShare T′.mir b 0 (val h))) (W .laws .raw-at fullShare T′.mir b 0 (val h)) $ check ! is $ done !))
 
-module _ {M : Type 1} (𝓤 : URA M) (H : Heap 𝓤) (A : Atoms 𝓤) (W : Given 𝓤 H A) (at-mem : Memory → SProp 𝓤) (run : Routine → Fun 𝓤) (κ : Lft) (q : Share) (h : Receiver) (s : RefT (List ℕ)) where
+module _ {M : Type 1} (𝓤 : URA M) (H : Heap 𝓤) (A : Atoms 𝓤) (W : Given 𝓤 H A) (at-mem : Memory → SProp 𝓤) (run : Routine → Fun 𝓤) (κ : Lft)
+    (q : Share) (h : Receiver) (s : RefT (List ℕ)) where
   abbrev Arg : Type 0
   Arg = Receiver × (RefT (List ℕ) × Unit {0})
 
@@ -138,13 +152,17 @@ module _ {M : Type 1} (𝓤 : URA M) (H : Heap 𝓤) (A : Atoms 𝓤) (W : Given
 
   goes-lent : (b ν : ℕ) (δ : GName)
       → ent 𝓤
-      (sep 𝓤 (sep 𝓤 (A .lft (ν ∷ []) fullShare) (sep 𝓤 (A .lft κ q) (sem 𝓤 H A ftrue))) (sem 𝓤 H A (owns (MutRef (named 0) (ν ∷ []) T.the-row ∷ ShrSlice (named 1) κ u8 ∷ []) (ref b δ, (s, tt)) (vptr b 0 ∷ [], (v ∷ [], tt)))))
+      (sep 𝓤 (sep 𝓤 (A .lft (ν ∷ []) fullShare) (sep 𝓤 (A .lft κ q) (sem 𝓤 H A ftrue)))
+      (sem 𝓤 H A (owns (MutRef (named 0) (ν ∷ []) T.the-row ∷ ShrSlice (named 1) κ u8 ∷ []) (ref b δ, (s, tt))
+      (vptr b 0 ∷ [], (v ∷ [], tt)))))
       (Lent 𝓤 H A at-mem run .pre (to-lent b ν δ))
   goes-lent b ν δ =
-      qed W ((‵ (flft (ν ∷ []) fullShare) ⊛ ‵ (flft κ q) ⊛ ‵ ftrue) ∷ ‵ (owns (MutRef (named 0) (ν ∷ []) T.the-row ∷ ShrSlice (named 1) κ u8 ∷ []) (ref b δ, (s, tt)) (vptr b 0 ∷ [], (v ∷ [], tt))) ∷ []) ∵ join ! $ frame ! $ done !
+      qed W ((‵ (flft (ν ∷ []) fullShare) ⊛ ‵ (flft κ q) ⊛ ‵ ftrue) ∷ ‵ (owns (MutRef (named 0) (ν ∷ []) T.the-row ∷ ShrSlice (named 1) κ u8
+      ∷ []) (ref b δ, (s, tt)) (vptr b 0 ∷ [], (v ∷ [], tt))) ∷ []) ∵ join ! $ frame ! $ done !
 
   leaves : (b ν : ℕ) (δ : GName) (t : TakeAnswer)
-      → ent 𝓤 (ensured 𝓤 H A take-lent.ended (take-lent.clauses 𝓤 H A at-mem run) (ν ∷ [], (κ, tt)) (ref b δ, (s, tt)) tt t) (ex 𝓤 (λ (y : Receiver). A .res δ (T.the-row .coded .code y)))
+      → ent 𝓤 (ensured 𝓤 H A take-lent.ended (take-lent.clauses 𝓤 H A at-mem run) (ν ∷ [], (κ, tt)) (ref b δ, (s, tt)) tt t)
+      (ex 𝓤 (λ (y : Receiver). A .res δ (T.the-row .coded .code y)))
   leaves b ν δ t = exE 𝓤 _ (λ ws.
       let L : SProp 𝓤 = sem 𝓤 H A (lasts take-lent.ended (ν ∷ [], (κ, tt)) (ref b δ, (s, tt)) ws) in
       let said : Type 0 =
@@ -154,64 +172,92 @@ module _ {M : Type 1} (𝓤 : URA M) (H : Heap 𝓤) (A : Atoms 𝓤) (W : Given
       in
       let E : SProp 𝓤 = sep 𝓤 (fact 𝓤 said) (fact 𝓤 (ws .0 ≡ lentReceiver h (s .now))) in
       let R : SProp 𝓤 = A .res δ (T.the-row .coded .code (ws .0)) in
-      via 𝓤 R (via 𝓤 L (fst∗ 𝓤 L E) (fst∗ 𝓤 R (sem 𝓤 H A (fsep ftrue ftrue)))) (exI 𝓤 (λ (y : Receiver). A .res δ (T.the-row .coded .code y)) (ws .0)))
+      via 𝓤 R (via 𝓤 L (fst∗ 𝓤 L E) (fst∗ 𝓤 R (sem 𝓤 H A (fsep ftrue ftrue)))) (exI 𝓤
+      (λ (y : Receiver). A .res δ (T.the-row .coded .code y)) (ws .0)))
 
-  exits : (t : Taken) → Is U.the-row t (handed t ∷ []) → Is T.the-row h (vals h) → ent 𝓤 (sep 𝓤 (sep 𝓤 (A .lft κ q) (sem 𝓤 H A ftrue)) (sem 𝓤 H A Own)) (Post (handed t))
+  exits : (t : Taken) → Is U.the-row t (handed t ∷ []) → Is T.the-row h (vals h)
+      → ent 𝓤 (sep 𝓤 (sep 𝓤 (A .lft κ q) (sem 𝓤 H A ftrue)) (sem 𝓤 H A Own)) (Post (handed t))
   exits t is was =
       qed W ((‵ (flft κ q) ⊛ ‵ ftrue) ∷ ‵ Own ∷ []) ∵
-      suffices ! _ (ends-at 𝓤 H A taken-lent.ended stayed (taken-lent.clauses 𝓤 H A at-mem run) W (((κ, tt), (q, tt), tt, x, at), tt) (handed t) t (tt, (tt, tt)) (tt, (tt, tt))) $
+      suffices ! _ (ends-at 𝓤 H A taken-lent.ended stayed (taken-lent.clauses 𝓤 H A at-mem run) W (((κ, tt), (q, tt), tt, x, at), tt)
+      (handed t) t (tt, (tt, tt)) (tt, (tt, tt))) $
       and-nothing ! $ frame ! $
-      nothing ! $ move ! (1 ∷ 0 ∷ []) $ fjoin ! $ owned ! T.the-row (Is T.the-row) (LL.makes T.the-type T′.the-plain 𝓤 H A) h (vals h) was $ fjoin ! $
+      nothing ! $ move ! (1 ∷ 0 ∷ []) $ fjoin ! $ owned ! T.the-row (Is T.the-row) (LL.makes T.the-type T′.the-plain 𝓤 H A) h (vals h) was $
+      fjoin ! $
       owned ! U.the-row (Is U.the-row) (LL.makes U.the-type U′.the-plain 𝓤 H A) t _ is $ move ! (1 ∷ 0 ∷ []) $ done !
 
   module _ (C : Calls 𝓤 H) (Λ : Loops 𝓤 H) (fm : FmC 𝓤 H (W .laws) C) (known : Triple 𝓤 (C #take-lent) (Lent 𝓤 H A at-mem run)) where
     walk : Is T.the-row h (vals h) → Is (ShrSlice (named 0) κ u8) s (v ∷ [])
         → ent 𝓤 (onEntry 𝓤 H A taken-lent.signature (κ, tt) (q, tt) x at) (WpFn 𝓤 H C Λ code.function (val h ∷ v ∷ []) Post)
     walk was row-is =
-        qed W ((‵ (flft κ q) ⊛ ‵ ftrue) ∷ ‵ (owns (T.the-row ∷ ShrSlice (named 0) κ u8 ∷ []) x at) ∷ []) ∵ enter ! C Λ code.function (val h ∷ v ∷ []) _ $
-        alloc1 ! (λ l₀. alloc1 ! (λ l₁. alloc1 ! (λ l₂. alloc1 ! (λ l₃. alloc1 ! (λ l₄. alloc1 ! (λ l₅. alloc1 ! (λ l₆. alloc0 ! $ params1 ! $
-        pass1 ! (init ! 10 refl (LL.lawful T.the-type T′.the-laws 𝓤 H A W .typed h _ was .0)) $ pass1 ! (init ! 8 refl (shr-slice-lawful 𝓤 H A W (named 0) κ u8 .typed s (v ∷ []) row-is .0)) $ pass0 ! $
+        qed W ((‵ (flft κ q) ⊛ ‵ ftrue) ∷ ‵ (owns (T.the-row ∷ ShrSlice (named 0) κ u8 ∷ []) x at) ∷ []) ∵ enter ! C Λ code.function
+        (val h ∷ v ∷ []) _ $
+        alloc1 ! (λ l₀. alloc1 ! (λ l₁. alloc1 ! (λ l₂. alloc1 ! (λ l₃. alloc1 ! (λ l₄.
+        alloc1 ! (λ l₅. alloc1 ! (λ l₆. alloc0 ! $ params1 ! $
+        pass1 ! (init ! 10 refl (LL.lawful T.the-type T′.the-laws 𝓤 H A W .typed h _ was .0)) $
+        pass1 ! (init ! 8 refl (shr-slice-lawful 𝓤 H A W (named 0) κ u8 .typed s (v ∷ []) row-is .0)) $ pass0 ! $
         -- [_6; …; _5; …; _4; …; _3; …; _2; …; _1; …; room for _0; …; the token; what the receiver and the row own]
-        assigns ! (of-opd ! (load ! (from ! (stop !)) (look ! 10 refl))) (from ! (stop !)) (init ! 6 refl (LL.lawful T.the-type T′.the-laws 𝓤 H A W .typed h _ was .0)) $
+        assigns ! (of-opd ! (load ! (from ! (stop !)) (look ! 10 refl))) (from ! (stop !))
+        (init ! 6 refl (LL.lawful T.the-type T′.the-laws 𝓤 H A W .typed h _ was .0)) $
         assigns ! (addr ! (from ! (stop !))) (from ! (stop !)) (init ! 2 refl (tt, tt)) $
         -- the local is lent for the lifetime ν
         lft-new ! tt (λ ν. move ! (7 ∷ []) $ use1 W (‵ (mem T.the-row .lies h l₃ 0)) (lies-in 𝓤 H A W l₃ h was) $
-        use1 W (later (some (λ (δ : GName). ‵ (MutRef (named 0) (ν ∷ []) T.the-row .own (ref l₃ δ) (vptr l₃ 0 ∷ [])) ⊛ ‵ (flent (ν ∷ []) (Body (mem T.the-row) l₃ 0 δ))))) (lends-ref 𝓤 H A W T.the-row (named 0) (ν ∷ []) h l₃ 0) $ await ! tt $ pick ! (λ δ. split ! $
-        -- [the reference; the lender's part; ν's token; _6; …; _5; …; _4; …; …; _2; …; _1; …; room for _0; …; the row's token; what the receiver and the row own]
-        move ! (17 ∷ []) $ fsplit ! $ drop ! $ fsplit ! $ use1 W (‵ Own ⊛ ‵ Own) (shr-slice-copy 𝓤 H A W (named 0) κ u8 .twice s (v ∷ [])) $ split ! $ move ! (0 ∷ 2 ∷ []) $ fjoin ! $ move ! (2 ∷ 0 ∷ []) $ fjoin ! $
+        use1 W (later (some (λ (δ : GName). ‵ (MutRef (named 0) (ν ∷ []) T.the-row .own (ref l₃ δ) (vptr l₃ 0 ∷ []))
+        ⊛ ‵ (flent (ν ∷ []) (Body (mem T.the-row) l₃ 0 δ))))) (lends-ref 𝓤 H A W T.the-row (named 0) (ν ∷ []) h l₃ 0) $ await ! tt $
+        pick ! (λ δ. split ! $
+        -- [the reference; the lender's part; ν's token; _6; …; _5; …; _4; …; …; _2; …; _1; …; room for _0; …; the row's token; what the
+        -- receiver and the row own]
+        move ! (17 ∷ []) $ fsplit ! $ drop ! $ fsplit ! $ use1 W (‵ Own ⊛ ‵ Own) (shr-slice-copy 𝓤 H A W (named 0) κ u8 .twice s (v ∷ [])) $
+        split ! $ move ! (0 ∷ 2 ∷ []) $ fjoin ! $ move ! (2 ∷ 0 ∷ []) $ fjoin ! $
         move ! (3 ∷ 17 ∷ []) $ join ! $ use2 W (raw (Lent 𝓤 H A at-mem run .pre (to-lent l₃ ν δ))) (goes-lent l₃ ν δ) $
-        calls-at ! fm (Lent 𝓤 H A at-mem run) known (to-lent l₃ ν δ) (and-then ! (load ! (from ! (stop !)) (look ! 5 refl)) (and-then ! (load ! (from ! (stop !)) (look ! 10 refl)) (no-more !))) (λ u.
-        use1 W (later (some (λ (t : TakeAnswer). ((‵ (flft (ν ∷ []) fullShare) ⊛ ‵ (flft κ q) ⊛ ‵ ftrue) ⊛ ‵ (S.the-row .own t (u ∷ []))) ⊛ raw (ensured 𝓤 H A take-lent.ended (take-lent.clauses 𝓤 H A at-mem run) (ν ∷ [], (κ, tt)) (ref l₃ δ, (s, tt)) tt t)))) (id⊢ 𝓤 _) $ await ! tt $ pick ! (λ t.
-        split ! $ move ! (1 ∷ []) $ use1 W (some (λ (y : Receiver). ‵ (fres δ (T.the-row .coded .code y)))) (leaves l₃ ν δ t) $ pick ! (λ y. move ! (1 ∷ []) $ split ! $ move ! (1 ∷ []) $
-        -- [the answer; the tokens; the last value; what the row owns; the lender's part; _6; …; _5; …; room for _4; …; …; _2; …; _1; …; room for _0; …]
+        calls-at ! fm (Lent 𝓤 H A at-mem run) known (to-lent l₃ ν δ) (and-then ! (load ! (from ! (stop !)) (look ! 5 refl))
+        (and-then ! (load ! (from ! (stop !)) (look ! 10 refl)) (no-more !))) (λ u.
+        use1 W (later (some (λ (t : TakeAnswer). ((‵ (flft (ν ∷ []) fullShare) ⊛ ‵ (flft κ q) ⊛ ‵ ftrue) ⊛ ‵ (S.the-row .own t (u ∷ [])))
+        ⊛ raw (ensured 𝓤 H A take-lent.ended (take-lent.clauses 𝓤 H A at-mem run) (ν ∷ [], (κ, tt)) (ref l₃ δ, (s, tt)) tt t)))) (id⊢ 𝓤 _) $
+        await ! tt $ pick ! (λ t.
+        split ! $ move ! (1 ∷ []) $ use1 W (some (λ (y : Receiver). ‵ (fres δ (T.the-row .coded .code y)))) (leaves l₃ ν δ t) $
+        pick ! (λ y. move ! (1 ∷ []) $ split ! $ move ! (1 ∷ []) $
+        -- [the answer; the tokens; the last value; what the row owns; the lender's part; _6; …; _5; …; room for _4; …; …; _2; …; _1; …;
+        -- room for _0; …]
         peeks ! S.the-row (Is S.the-row) (shows 𝓤 H A S.the-row) t (u ∷ []) (λ is. drop ! $
         land ! (from ! (stop !)) (init ! 8 refl (EL.lawful S.the-type S′.the-laws 𝓤 H A W tt .typed t _ is .0)) $
         rewrite ! 8 (λ (w : Val). ‵ (fat fullShare S′.mir l₄ 0 w)) (ap only (EL.tells S.the-type S′.the-laws t (u ∷ []) is)) refl $
         -- ν is over, and the local holds what the call left
-        split ! $ lft-end ! tt $ move ! (0 ∷ 4 ∷ 2 ∷ []) $ use3 W (later (‵ (mem T.the-row .lies y l₃ 0))) (ref-back 𝓤 H A W T.the-row (ν ∷ []) δ y l₃ 0) $ await ! tt $
+        split ! $ lft-end ! tt $ move ! (0 ∷ 4 ∷ 2 ∷ []) $ use3 W (later (‵ (mem T.the-row .lies y l₃ 0)))
+        (ref-back 𝓤 H A W T.the-row (ν ∷ []) δ y l₃ 0) $ await ! tt $
         use1 W (given (Is T.the-row y (vals y)) (‵ (fat fullShare T′.mir l₃ 0 (val y)))) (lies-out 𝓤 H A W l₃ y) $ learn ! (λ y-is.
         -- [_3; the row's token; what the row owns; room for _6; …; _5; …; _4; …; …; _2; …; _1; …; room for _0; …]
-        assigns ! (of-opd ! (load ! (from ! (stop !)) (look ! 0 refl))) (from ! (stop !)) (init ! 3 refl (LL.lawful T.the-type T′.the-laws 𝓤 H A W .typed y _ y-is .0)) $
-        assigns ! (agg ! (and-then ! (load ! (from ! (stop !)) (look ! 3 refl)) (and-then ! (load ! (from ! (stop !)) (look ! 7 refl)) (no-more !)))) (from ! (stop !)) (init ! 14 refl (LL.lawful U.the-type U′.the-laws 𝓤 H A W .typed (both y t) _ (both-is y t (u ∷ []) y-is is) .0)) $
-        returns ! (look ! 14 refl) $ forget ! 0 refl $ forget ! 3 refl $ forget ! 5 refl $ forget ! 7 refl $ forget ! 10 refl $ forget ! 12 refl $ forget ! 14 refl $
-        move ! (14 ∷ 15 ∷ []) $ free1 ! $ move ! (12 ∷ 13 ∷ []) $ free1 ! $ move ! (10 ∷ 11 ∷ []) $ free1 ! $ move ! (0 ∷ 9 ∷ []) $ free1 ! $ move ! (6 ∷ 7 ∷ []) $ free1 ! $ move ! (4 ∷ 5 ∷ []) $ free1 ! $ move ! (2 ∷ 3 ∷ []) $ free1 ! $ free0 ! $
+        assigns ! (of-opd ! (load ! (from ! (stop !)) (look ! 0 refl))) (from ! (stop !))
+        (init ! 3 refl (LL.lawful T.the-type T′.the-laws 𝓤 H A W .typed y _ y-is .0)) $
+        assigns ! (agg ! (and-then ! (load ! (from ! (stop !)) (look ! 3 refl)) (and-then ! (load ! (from ! (stop !)) (look ! 7 refl))
+        (no-more !)))) (from ! (stop !)) (init ! 14 refl (LL.lawful U.the-type U′.the-laws 𝓤 H A W .typed (both y t) _
+        (both-is y t (u ∷ []) y-is is) .0)) $
+        returns ! (look ! 14 refl) $ forget ! 0 refl $ forget ! 3 refl $ forget ! 5 refl $ forget ! 7 refl $ forget ! 10 refl $
+        forget ! 12 refl $ forget ! 14 refl $
+        move ! (14 ∷ 15 ∷ []) $ free1 ! $ move ! (12 ∷ 13 ∷ []) $ free1 ! $ move ! (10 ∷ 11 ∷ []) $ free1 ! $ move ! (0 ∷ 9 ∷ []) $
+        free1 ! $ move ! (6 ∷ 7 ∷ []) $ free1 ! $ move ! (4 ∷ 5 ∷ []) $ free1 ! $ move ! (2 ∷ 3 ∷ []) $ free1 ! $ free0 ! $
         by ! (exits (both y t) (both-is y t (u ∷ []) y-is is) was)))))))))))))))
 
 module _ {M : Type 1} (𝓤 : URA M) (H : Heap 𝓤) (A : Atoms 𝓤) (W : Given 𝓤 H A) (at-mem : Memory → SProp 𝓤) (run : Routine → Fun 𝓤) where
   lent-walks : (C : Calls 𝓤 H) (Λ : Loops 𝓤 H) → FmC 𝓤 H (W .laws) C → Triple 𝓤 (C #take-lent) (Lent 𝓤 H A at-mem run)
       → Walks 𝓤 H A taken-lent.ended stayed (WpFn 𝓤 H C Λ code.function) (taken-lent.clauses 𝓤 H A at-mem run)
   lent-walks C Λ fm known =
-      walked 𝓤 H A taken-lent.ended stayed (taken-lent.clauses 𝓤 H A at-mem run) (WpFn 𝓤 H C Λ code.function) (λ κs. (vals, (slice-vals, tt)))
+      walked 𝓤 H A taken-lent.ended stayed (taken-lent.clauses 𝓤 H A at-mem run) (WpFn 𝓤 H C Λ code.function)
+      (λ κs. (vals, (slice-vals, tt)))
       (λ κs. (LL.tells T.the-type T′.the-laws, (shr-slice-tells (named 0) (κs .0) u8, tt)))
-      (λ κs qs bounds a g are. via 𝓤 _ (fst∗ 𝓤 _ (emp 𝓤)) (walk 𝓤 H A W at-mem run (κs .0) (qs .0) (a .0) (a .1 .0) C Λ fm known (are .0) (are .1 .0)))
+      (λ κs qs bounds a g are. via 𝓤 _ (fst∗ 𝓤 _ (emp 𝓤)) (walk 𝓤 H A W at-mem run (κs .0) (qs .0) (a .0) (a .1 .0) C Λ fm known (are .0)
+      (are .1 .0)))
 
   goes : AllGo 𝓤 H A W 1 (taken-lent.signature .params) (taken-lent.ended .kept) stayed
   goes = (goes-none 𝓤 H A W 1 (λ _. T.the-row) yes (λ κs x f. refl), (goes-none-slice 𝓤 H A W 1 (0 ∷ []) tt (plain (λ _. u8)) yes, tt))
 
-lent-meets : {M : Type 1} (𝓤 : URA M) (H : Heap 𝓤) (A : Atoms 𝓤) → Given 𝓤 H A → (at-mem : Memory → SProp 𝓤) (run : Routine → Fun 𝓤) (𝓣 : Tables 𝓤 H)
-    → Triple 𝓤 (𝓣 .C #take-lent) (Lent 𝓤 H A at-mem run) → Meets 𝓤 H A taken-lent.signature (WpFn 𝓤 H (𝓣 .C) (𝓣 .Λ) code.function) (taken-lent.spec 𝓤 H A at-mem run)
+lent-meets : {M : Type 1} (𝓤 : URA M) (H : Heap 𝓤) (A : Atoms 𝓤) → Given 𝓤 H A → (at-mem : Memory → SProp 𝓤) (run : Routine → Fun 𝓤)
+    (𝓣 : Tables 𝓤 H)
+    → Triple 𝓤 (𝓣 .C #take-lent) (Lent 𝓤 H A at-mem run) → Meets 𝓤 H A taken-lent.signature (WpFn 𝓤 H (𝓣 .C) (𝓣 .Λ) code.function)
+    (taken-lent.spec 𝓤 H A at-mem run)
 lent-meets 𝓤 H A W at-mem run 𝓣 known =
-    walk-meets 𝓤 H A taken-lent.ended stayed W (goes 𝓤 H A W at-mem run) (taken-lent.clauses 𝓤 H A at-mem run) (WpFn 𝓤 H (𝓣 .C) (𝓣 .Λ) code.function)
+    walk-meets 𝓤 H A taken-lent.ended stayed W (goes 𝓤 H A W at-mem run) (taken-lent.clauses 𝓤 H A at-mem run)
+    (WpFn 𝓤 H (𝓣 .C) (𝓣 .Λ) code.function)
     (WpFn-mono 𝓤 H (W .laws) 𝓣 code.function) (lent-walks 𝓤 H A W at-mem run (𝓣 .C) (𝓣 .Λ) (fmOf 𝓤 H (W .laws) 𝓣) known)
 
 pub taken-lent-spec : {M : Type 1} → stated.statement M
@@ -220,4 +266,5 @@ taken-lent-spec 𝓤 H 𝓜 𝓖 𝓡 =
     entered 𝓤 H (tripleOf 𝓤 H (𝓖 .A) taken-lent.signature (taken-lent.spec 𝓤 H (𝓖 .A) (𝓜 .mem) (𝓡 .run)))
     (tables 𝓤 H 𝓜 𝓡 code.env .C) (tables 𝓤 H 𝓜 𝓡 code.env .Λ) #taken-lent code.function (code.unfolded 𝓤 H 𝓜 𝓡)
     (lent-meets 𝓤 H (𝓖 .A) (givenOf 𝓤 H 𝓜 𝓖) (𝓜 .mem) (𝓡 .run) (tablesOf 𝓤 H 𝓜 (tables 𝓤 H 𝓜 𝓡 code.env))
-    (cited 𝓤 H (Lent 𝓤 H (𝓖 .A) (𝓜 .mem) (𝓡 .run)) 𝓜 𝓡 code.env #take-lent take-lent-def.routine code.calls-receiver·take-lent (take-lent-thm.met 𝓤 H 𝓜 𝓖 𝓡)))
+    (cited 𝓤 H (Lent 𝓤 H (𝓖 .A) (𝓜 .mem) (𝓡 .run)) 𝓜 𝓡 code.env #take-lent take-lent-def.routine code.calls-receiver·take-lent
+    (take-lent-thm.met 𝓤 H 𝓜 𝓖 𝓡)))

@@ -14,9 +14,10 @@ use Rattle.extended.specs.Drawn.{drawnExtended}
 use Rattle.ferrers.specs.Ferrers.{ferrersIndex}
 use Rattle.text.specs.Text.{comma, lineFeed, numeral}
 use Rattle.text.specs.Piece.{joined}
-use Rattle.text.specs.Rows.{DigitRows, rowsText}
-use Rattle.text.specs.laws.Rows.{size-bound, rowsText-front}
-use Rattle.listing.specs.Line.{lineText, linePieces}
+use Rattle.rows_text.specs.Rows.{DigitRows, rowsText}
+use Rattle.rows_text.specs.laws.Rows.{size-bound, rowsText-front}
+use Rattle.line.specs.Line.{linePieces}
+use Rattle.listing.specs.Line.{lineText}
 use Rattle.listing.specs.Listing.{listingLine}
 use Rattle.listing.specs.laws.Line.{drawn-is-reduced, digit-rows, line-short}
 use Rattle.listing.specs.laws.Front.{composed-line}

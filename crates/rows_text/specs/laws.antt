@@ -1,0 +1,2 @@
+-- Laws that the proofs cite; no part of the meaning.
+pub mod Rows
