@@ -50,4 +50,15 @@ harness_step harness_take_lent(harness_receiver receiver, const uint8_t *row, si
 
 harness_answer harness_close(harness_receiver receiver, uint64_t numbering);
 
+/* What Pool leaves: the receiver handed back, the refusal or 0, and the dimensions of the two spaces. */
+typedef struct {
+    harness_receiver receiver;
+    uint32_t refusal;
+    uint64_t joint_dimension, common_dimension;
+} harness_pooled;
+
+/* Pool: the smallest space that contains both goes to joint, the common space to common. */
+harness_pooled harness_pool(harness_receiver a, harness_receiver b, uint8_t *joint, size_t joint_length,
+                            uint8_t *common, size_t common_length);
+
 #endif

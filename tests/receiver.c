@@ -5,7 +5,7 @@
  */
 #include "cases.h"
 #include "check.h"
-#include "harness.h"
+#include "receivers.h"
 
 enum { SETTINGS = 468, SCRIPTS = 40, CALLS = 60, TRIPS = 20, FORGERIES = 6, DAMAGES = 100, ROW_LIMIT = MAX_LENGTH + 1 };
 
@@ -21,20 +21,6 @@ static const char *const form_names[] = {"by value", "lent"};
 static harness_step take(take_form form, const harness_receiver *receiver, const uint8_t *row, size_t length)
 {
     return form == LENT ? harness_take_lent(*receiver, row, length) : harness_take(*receiver, row, length);
-}
-
-static bool same_receiver(const harness_receiver *first, const harness_receiver *second)
-{
-    return memcmp(first, second, sizeof *first) == 0;
-}
-
-/* The receiver that the library must have where the second has this one. */
-static harness_receiver image_of(const second_receiver *model)
-{
-    harness_receiver image = {{0}, model->q, model->n, model->k, 0};
-    if (model->n > 0)
-        image.dimension = second_entries(model, image.entries);
-    return image;
 }
 
 /* A start in both; answers the library's receiver. */
@@ -103,13 +89,6 @@ static void begin_script(const setting *s, script *one)
     one->receiver = compare_start(s->q, s->n, s->k, &one->model);
     one->base_count = random_below(2) == 0 ? s->k : random_below(s->n + 1);
     random_entries(s->q, one->base, (size_t)(one->base_count * s->n));
-}
-
-static void random_mixture(uint64_t q, uint64_t n, uint64_t count, const uint8_t *rows, uint8_t *mixture)
-{
-    uint8_t factors[MAX_ROWS];
-    random_entries(q, factors, (size_t)count);
-    mix_rows(q, n, count, rows, factors, mixture);
 }
 
 /* A number that is no entry of the field: the first, the last or any. */
@@ -316,9 +295,7 @@ static void compare_any(const harness_receiver *receiver)
 {
     second_receiver model;
     uint8_t row[ROW_LIMIT];
-    uint32_t refusal = second_revive(receiver->q, receiver->n, receiver->k, receiver->dimension, receiver->entries,
-                                     &model);
-    if (refusal == ACCEPTED) {
+    if (revive(receiver, &model) == ACCEPTED) {
         reachable++;
         compare_reachable(receiver, &model);
         return;
@@ -341,19 +318,6 @@ static void end_any_group(void)
     check_group_end();
 }
 
-/* A receiver of the given dimension, after random rows; as many as surely are enough, unless Take is at fault. */
-static harness_receiver receiver_of(uint64_t q, uint64_t n, uint64_t k, uint64_t dimension)
-{
-    harness_receiver receiver = harness_start(q, n, k).receiver;
-    uint8_t row[MAX_LENGTH];
-    for (unsigned rows = 0; rows < 500 && receiver.dimension < dimension; rows++) {
-        random_entries(q, row, (size_t)n);
-        receiver = harness_take(receiver, row, (size_t)n).receiver;
-    }
-    check(receiver.dimension == dimension, "dimension %" PRIu64 " not reached", dimension);
-    return receiver;
-}
-
 /* Every byte of a receiver, those of its four numbers too, at each of the 255 other values. */
 static void single_byte_group(uint64_t q, uint64_t n, uint64_t k, uint64_t dimension)
 {
@@ -369,32 +333,6 @@ static void single_byte_group(uint64_t q, uint64_t n, uint64_t k, uint64_t dimen
             compare_any(&damaged);
         }
     end_any_group();
-}
-
-/* Changes the rows of a receiver that has some: mostly the same span, told by other rows. */
-static void damage_rows(harness_receiver *receiver)
-{
-    uint64_t q = receiver->q, n = receiver->n;
-    uint8_t kept[MAX_LENGTH], *row = receiver->entries + random_below(receiver->dimension) * n;
-    uint8_t *other = receiver->entries + random_below(receiver->dimension) * n;
-    memcpy(kept, row, (size_t)n);
-    switch (random_below(5)) {
-    case 0:
-        memmove(row, other, (size_t)n);
-        memcpy(other, kept, (size_t)n);
-        break;
-    case 1:
-        add_multiple(q, n, row, other, (uint8_t)random_below(q));
-        break;
-    case 2:
-        memset(row, 0, (size_t)n);
-        break;
-    case 3:
-        random_mixture(q, n, receiver->dimension, receiver->entries, row);
-        break;
-    default:
-        receiver->dimension += random_below(3) - 1;
-    }
 }
 
 static void damaged_rows_group(void)
@@ -428,14 +366,6 @@ static void every_filling_group(uint64_t q, uint64_t n, uint64_t k, size_t fille
     check(reachable == spaces, "%" PRIu64 " receivers for %" PRIu64 " spaces", reachable, spaces);
     end_any_group();
 }
-
-/* Numbers in and out of range, those that would be cut to a number in range, and those whose products wrap to 0. */
-static const uint64_t forged[] = {
-    0, 1, 2, 3, 4, 5, 6, 7, 8, 9, 10, 11, 12, 13, 14, 15, 16, 17, 18, 32, 127, 128, 255, 256, 257, 258, 259, 261, 263,
-    272, 65536, 65538, UINT64_C(1) << 32, (UINT64_C(1) << 32) + 1, (UINT64_C(1) << 32) + 2, (UINT64_C(1) << 32) + 3,
-    UINT64_C(1) << 60, (UINT64_C(1) << 60) + 1, UINT64_C(1) << 61, UINT64_C(1) << 62, UINT64_C(1) << 63,
-    (UINT64_C(1) << 63) + 2, UINT64_MAX - 15, UINT64_MAX - 1, UINT64_MAX,
-};
 
 /* One of the four numbers, or two of them, forged. */
 static void compare_forged(const harness_receiver *receiver, uint64_t value)

@@ -19,6 +19,7 @@ enum {
     REFUSED_ROW_COUNT = 13,      /* there are more than 64 rows */
     REFUSED_RECEIVER = 14,       /* the receiver is none that Start and Take can leave */
     REFUSED_NO_COUNTERPART = 15, /* the drawn matrix has no number in the other numbering; never given here */
+    REFUSED_MISMATCH = 16,       /* the receivers differ in q, n or k */
     REFUSAL_LIMIT
 };
 

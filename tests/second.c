@@ -23,8 +23,7 @@ static bool pivot_alone(uint64_t n, uint64_t k, const uint8_t *matrix, uint64_t 
     return true;
 }
 
-/* The column of the row's first nonzero entry; n where it is zero. */
-static uint64_t pivot_of(uint64_t n, const uint8_t *row)
+uint64_t second_pivot(uint64_t n, const uint8_t *row)
 {
     uint64_t column = 0;
     while (column < n && row[column] == 0)
@@ -36,10 +35,10 @@ static uint64_t pivot_of(uint64_t n, const uint8_t *row)
 static bool is_reduced(uint64_t n, uint64_t k, const uint8_t *matrix)
 {
     for (uint64_t row = 0; row < k; row++) {
-        uint64_t pivot = pivot_of(n, matrix + row * n);
+        uint64_t pivot = second_pivot(n, matrix + row * n);
         if (pivot == n || matrix[row * n + pivot] != 1)
             return false;
-        if (row > 0 && pivot <= pivot_of(n, matrix + (row - 1) * n))
+        if (row > 0 && pivot <= second_pivot(n, matrix + (row - 1) * n))
             return false;
         if (!pivot_alone(n, k, matrix, row, pivot))
             return false;

@@ -4,8 +4,9 @@
  * It is of other make than the library that it tests, slow and plain, and follows the definitions. Counts come from
  * formula (1) on big numbers. The index of a matrix is the number of matrices that come before it in the order, counted
  * set of pivot columns by set of pivot columns; Draw searches for the matrix with the index. Reduction is Gauss-Jordan
- * elimination column by column, and a whole listing comes from sorting all reduced matrices by comparing two of them
- * at a time. Formula numbers are those of document 001; calls, refusals and orders are those of document 01.
+ * elimination column by column; the common space of two receivers comes from trying all rows, or from the complements.
+ * A whole listing comes from sorting all reduced matrices by comparing two of them at a time. Formula numbers are those
+ * of document 001; calls, refusals and orders are those of document 01.
  *
  * Every call answers a refusal number, 0 for done. A refused call leaves lent buffers as they were and sets the
  * index, count and dimension to 0, except that too few and too many dimensions also give the dimension.
@@ -59,7 +60,10 @@ uint32_t second_reduce(uint64_t q, uint64_t n, uint64_t r, const uint8_t *rows, 
 uint32_t second_receive(uint64_t q, uint64_t n, uint64_t k, uint64_t numbering, uint64_t r,
                         const uint8_t *rows, size_t rows_length, uint64_t *index, uint64_t *dimension);
 
-/* The second implementation's receiver: the rows that it accepted, r of them. All zeros after a refused start. */
+/*
+ * The second implementation's receiver: the rows that it accepted, r of them. All zeros after a refused start, and in
+ * the place of a receiver that no list of rows leads to.
+ */
 typedef struct {
     uint64_t q, n, k, r;
     uint8_t rows[MAX_ROWS * MAX_LENGTH];
@@ -80,6 +84,19 @@ uint32_t second_close(const second_receiver *receiver, uint64_t numbering, uint6
 /* Makes a receiver out of its dimension and its 256 entries. Refuses 14 where no list of rows leads to them. */
 uint32_t second_revive(uint64_t q, uint64_t n, uint64_t k, uint64_t dimension, const uint8_t *entries,
                        second_receiver *receiver);
+
+/* What Pool leaves beside the matrices: a receiver of the joint space, and both dimensions; all zeros if refused. */
+typedef struct {
+    second_receiver receiver;
+    uint64_t joint_dimension, common_dimension;
+} second_pooled;
+
+/*
+ * Pool: writes the n x n bytes of the reduced rows, then zeros, of the smallest space that contains both receivers'
+ * spaces, and those of their common space. Refuses 14 for the first receiver, 14 for the second, 16, 4.
+ */
+uint32_t second_pool(const second_receiver *first, const second_receiver *second, uint8_t *joint, size_t joint_length,
+                     uint8_t *common, size_t common_length, second_pooled *pooled);
 
 /* The identifying vector of a reduced matrix: column j from the right has the value 2^(j-1). */
 uint32_t second_identifying_vector(uint64_t n, uint64_t k, const uint8_t *matrix);

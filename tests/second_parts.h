@@ -1,6 +1,6 @@
 /*
  * What the parts of the second implementation share: its tables and inner calls. Of the tests only the self-test reads
- * it, for the tables and for the sets of pivot columns.
+ * it, for the tables, the sets of pivot columns and the common spaces.
  */
 #ifndef SECOND_PARTS_H
 #define SECOND_PARTS_H
@@ -45,5 +45,27 @@ bool second_is_vector(uint64_t n, uint32_t vector);
 /* The index of a reduced matrix, and the matrix of an index below the count. */
 uint64_t second_index_of(uint64_t q, uint64_t n, uint64_t k, uint64_t numbering, const uint8_t *matrix);
 void second_search(uint64_t q, uint64_t n, uint64_t k, uint64_t numbering, uint64_t index, uint8_t *matrix);
+
+/* The column of a row's first nonzero entry; n where there is none. */
+uint64_t second_pivot(uint64_t n, const uint8_t *row);
+
+/* Subtracts a multiple of another row. */
+void second_subtract_row(const second_field *field, uint8_t *row, const uint8_t *other, unsigned n, unsigned factor);
+
+/* A space by its reduced rows; zeros stand after them. */
+typedef struct {
+    uint64_t q, n, dimension;
+    uint8_t rows[MAX_LENGTH * MAX_LENGTH];
+} second_space;
+
+/* The span of at most 64 rows. */
+second_space second_span(uint64_t q, uint64_t n, uint64_t r, const uint8_t *rows);
+
+/* The smallest space that contains both. */
+second_space second_joint(const second_space *first, const second_space *second);
+
+/* The common space, by trying all q^n rows, and by complements. */
+second_space second_common_tried(const second_space *first, const second_space *second);
+second_space second_common_solved(const second_space *first, const second_space *second);
 
 #endif

@@ -49,18 +49,25 @@ uint32_t second_close(const second_receiver *receiver, uint64_t numbering, uint6
                           (size_t)(receiver->r * receiver->n), index, dimension);
 }
 
+/* A refusal, with all zeros in the receiver's place. */
+static uint32_t no_receiver(second_receiver *receiver)
+{
+    memset(receiver, 0, sizeof *receiver);
+    return REFUSED_RECEIVER;
+}
+
 uint32_t second_revive(uint64_t q, uint64_t n, uint64_t k, uint64_t dimension, const uint8_t *entries,
                        second_receiver *receiver)
 {
     uint8_t reduced[MAX_LENGTH * MAX_LENGTH] = {0};
     uint64_t rank;
     if (second_start(q, n, k, receiver) != ACCEPTED || dimension > n)
-        return REFUSED_RECEIVER;
+        return no_receiver(receiver);
     size_t length = (size_t)(dimension * n);
     if (second_reduce(q, n, dimension, entries, length, reduced, (size_t)(n * n), &rank) != ACCEPTED)
-        return REFUSED_RECEIVER;
+        return no_receiver(receiver);
     if (rank != dimension || memcmp(reduced, entries, sizeof reduced) != 0)
-        return REFUSED_RECEIVER;
+        return no_receiver(receiver);
     memcpy(receiver->rows, entries, length);
     receiver->r = dimension;
     return ACCEPTED;

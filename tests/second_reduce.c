@@ -21,11 +21,10 @@ static void scale_row(const second_field *field, uint8_t *row, unsigned n, unsig
         row[column] = field->product[factor][row[column]];
 }
 
-/* Subtracts a multiple of the pivot's row. */
-static void subtract_row(const second_field *field, uint8_t *row, const uint8_t *pivot_row, unsigned n, unsigned factor)
+void second_subtract_row(const second_field *field, uint8_t *row, const uint8_t *other, unsigned n, unsigned factor)
 {
     for (unsigned column = 0; column < n; column++)
-        row[column] = field->difference[row[column]][field->product[factor][pivot_row[column]]];
+        row[column] = field->difference[row[column]][field->product[factor][other[column]]];
 }
 
 /* Clears a column outside of the pivot's row. */
@@ -34,7 +33,7 @@ static void clear_column(const second_field *field, uint8_t *rows, unsigned n, u
 {
     for (unsigned row = 0; row < r; row++)
         if (row != pivot)
-            subtract_row(field, rows + row * n, rows + pivot * n, n, rows[row * n + column]);
+            second_subtract_row(field, rows + row * n, rows + pivot * n, n, rows[row * n + column]);
 }
 
 /* The first row at or below the start with a nonzero entry in the column, or r. */

@@ -1,7 +1,7 @@
 /*
  * Tests the second implementation against itself: counting and searching against the sorted lists of all reduced
- * matrices, formula (1) against the diagrams, the elimination against spans written out in full, the receiver against
- * the counts, and all against the figures of document 001.
+ * matrices, formula (1) against the diagrams, the elimination and the common spaces against spans written out in full,
+ * the receiver against the counts, and all against the figures of document 001.
  */
 #include "cases.h"
 #include "check.h"
@@ -193,6 +193,40 @@ static void span_group(uint64_t q, uint64_t n)
     check_group_end();
 }
 
+/* ---- Common spaces against spans ---- */
+
+/* Two spans with some rows in common or none: what both means find has the rows that both spans have. */
+static void compare_common(uint64_t q, uint64_t n)
+{
+    static uint8_t first[SPAN_LIMIT], second[SPAN_LIMIT], common[SPAN_LIMIT], joint[SPAN_LIMIT];
+    uint8_t rows[3 * MAX_LENGTH * MAX_LENGTH];
+    uint64_t shared = random_below(n), r = shared + random_below(n), other_r = shared + random_below(n);
+    random_entries(q, rows, sizeof rows);
+    second_space one = second_span(q, n, r, rows);
+    memmove(rows + n * (r - shared), rows, (size_t)(shared * n));
+    second_space other = second_span(q, n, other_r, rows + n * (r - shared));
+    second_space tried = second_common_tried(&one, &other), solved = second_common_solved(&one, &other);
+    second_space smallest = second_joint(&one, &other);
+    check(tried.dimension == solved.dimension && memcmp(tried.rows, solved.rows, sizeof tried.rows) == 0, "two means");
+    check(smallest.dimension + tried.dimension == one.dimension + other.dimension, "dimensions");
+    mark_span(q, n, one.dimension, one.rows, first);
+    mark_span(q, n, other.dimension, other.rows, second);
+    mark_span(q, n, tried.dimension, tried.rows, common);
+    mark_span(q, n, smallest.dimension, smallest.rows, joint);
+    for (size_t code = 0; code < SPAN_LIMIT; code++) {
+        check(common[code] == (first[code] && second[code]), "row %zu in common", code);
+        check(joint[code] || (!first[code] && !second[code]), "row %zu in the joint space", code);
+    }
+}
+
+static void common_group(uint64_t q, uint64_t n)
+{
+    check_group_begin("common spaces, q = %" PRIu64 ", n = %" PRIu64, q, n);
+    for (unsigned round = 0; round < 200; round += (unsigned)thinning)
+        compare_common(q, n);
+    check_group_end();
+}
+
 /* ---- Figures ---- */
 
 static void compare_figure(uint64_t q, uint64_t n, uint64_t k, const char *rows, uint64_t extended, uint64_t ferrers)
@@ -304,6 +338,76 @@ static void receiver_figures_group(void)
     check_group_end();
 }
 
+/* Pools the spans of two lists of rows and compares with both reduced matrices. */
+static void compare_pool_figure(uint64_t q, uint64_t n, const char *first, const char *second, const char *joint,
+                                const char *common)
+{
+    uint8_t rows[MAX_LENGTH * MAX_LENGTH], matrices[2][MAX_LENGTH * MAX_LENGTH], expected[2][MAX_LENGTH * MAX_LENGTH];
+    second_receiver receivers[2];
+    second_pooled pooled;
+    uint32_t raised;
+    const char *const texts[] = {first, second};
+    for (unsigned place = 0; place < 2; place++) {
+        second_start(q, n, 1, &receivers[place]);
+        for (size_t row = 0, count = read_rows(texts[place], rows) / n; row < count; row++)
+            second_take(&receivers[place], rows + row * n, (size_t)n, &raised);
+    }
+    memset(expected, 0, sizeof expected);
+    size_t length = (size_t)(n * n), joint_length = read_rows(joint, expected[0]);
+    size_t common_length = read_rows(common, expected[1]);
+    uint32_t refusal = second_pool(&receivers[0], &receivers[1], matrices[0], length, matrices[1], length, &pooled);
+    check(refusal == ACCEPTED && pooled.joint_dimension == joint_length / n &&
+          pooled.common_dimension == common_length / n, "%s and %s: dimensions", first, second);
+    check(memcmp(matrices[0], expected[0], length) == 0, "%s and %s: the joint space", first, second);
+    check(memcmp(matrices[1], expected[1], length) == 0, "%s and %s: the common space", first, second);
+    check(pooled.receiver.r == joint_length / n && memcmp(pooled.receiver.rows, expected[0], length) == 0,
+          "%s and %s: the receiver", first, second);
+}
+
+static void pool_figures_group(void)
+{
+    check_group_begin("pool figures");
+    compare_pool_figure(2, 3, "100/010", "010/001", "100/010/001", "010");
+    compare_pool_figure(2, 3, "", "", "", "");
+    compare_pool_figure(2, 3, "110/011", "101", "101/011", "101");
+    compare_pool_figure(2, 3, "111", "", "111", "");
+    compare_pool_figure(2, 4, "1100/0011", "1010/0101", "1001/0101/0011", "1111");
+    compare_pool_figure(3, 2, "12", "21", "12", "12");
+    compare_pool_figure(3, 2, "11", "12", "10/01", "");
+    compare_pool_figure(5, 3, "104/014", "100/010", "100/010/001", "140");
+    compare_pool_figure(7, 4, "1000/0100", "1010/0101", "1000/0100/0010/0001", "");
+    /* The same two spans with zeros between and around, too long for trying all rows. */
+    compare_pool_figure(2, 16, "1000000000000001/0100000000000000", "0100000000000000/0010000000000000",
+                        "1000000000000001/0100000000000000/0010000000000000", "0100000000000000");
+    compare_pool_figure(5, 6, "100004/010004", "100000/010000", "100000/010000/000001", "140000");
+    check_group_end();
+}
+
+/* The order of the refusals, and what a refusal leaves. */
+static void pool_refusals_group(void)
+{
+    static const second_receiver none;
+    static const second_pooled nothing;
+    uint8_t bytes[2][9];
+    second_receiver good, other_k, other_n;
+    second_pooled pooled;
+    memset(bytes, FILLING, sizeof bytes);
+    second_start(2, 3, 2, &good);
+    second_start(2, 3, 1, &other_k);
+    second_start(2, 2, 2, &other_n);
+    check_group_begin("pool refusals");
+    check(second_pool(&none, &none, bytes[0], 1, bytes[1], 1, &pooled) == REFUSED_RECEIVER, "two forged");
+    check(second_pool(&none, &good, bytes[0], 9, bytes[1], 9, &pooled) == REFUSED_RECEIVER, "the first forged");
+    check(second_pool(&good, &none, bytes[0], 9, bytes[1], 8, &pooled) == REFUSED_RECEIVER, "14 before 16 and 4");
+    check(second_pool(&good, &other_k, bytes[0], 8, bytes[1], 9, &pooled) == REFUSED_MISMATCH, "16 before 4");
+    check(second_pool(&other_n, &good, bytes[0], 4, bytes[1], 4, &pooled) == REFUSED_MISMATCH, "another n");
+    check(second_pool(&good, &good, bytes[0], 8, bytes[1], 9, &pooled) == REFUSED_LENGTH, "the first buffer");
+    check(second_pool(&good, &good, bytes[0], 9, bytes[1], 4, &pooled) == REFUSED_LENGTH, "the second buffer");
+    check(memcmp(&pooled, &nothing, sizeof pooled) == 0, "what is refused is all zeros");
+    check(is_filled(bytes[0], 9) && is_filled(bytes[1], 9), "what is refused leaves the buffers");
+    check_group_end();
+}
+
 static void table_groups(void)
 {
     for (unsigned place = 0; place < FIELD_COUNT; place++) {
@@ -328,6 +432,11 @@ int main(int argument_count, char **arguments)
     span_group(3, 6);
     span_group(5, 4);
     span_group(7, 4);
+    common_group(2, 5);
+    common_group(2, 11);
+    common_group(3, 7);
+    common_group(5, 4);
+    common_group(7, 4);
     figures_group();
     order_figures_group();
     refusals_group();
@@ -336,5 +445,7 @@ int main(int argument_count, char **arguments)
     revived_group(5, 2);
     revived_group(7, 2);
     receiver_figures_group();
+    pool_figures_group();
+    pool_refusals_group();
     return check_summary("selftest");
 }

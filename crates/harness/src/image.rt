@@ -1,5 +1,8 @@
 // Flat shims for the receiver's calls: the receiver passes as its image, field by field.
 use crate::Answer;
+use pool::Dimensions;
+use pool::PoolAnswer;
+use pool::Pooled;
 use receive::Received;
 use receiver::Receiver;
 use receiver::TakeAnswer;
@@ -119,4 +122,47 @@ pub extern "C" fn harness_receive(
     rows: &[u8],
 ) -> Answer {
     received(receive::receive(q, n, k, numbering, row_count, rows))
+}
+
+// What Pool leaves: the pooled receiver, the refusal or 0, and the dimensions of the joint and of the common space.
+#[repr(C)]
+pub struct PooledImage {
+    pub image: Image,
+    pub refusal: u32,
+    pub joint_dimension: u64,
+    pub common_dimension: u64,
+}
+
+fn pooled_of(receiver: Receiver, refusal: u32, dimensions: Dimensions) -> PooledImage {
+    PooledImage {
+        image: image_of(receiver),
+        refusal,
+        joint_dimension: dimensions.joint,
+        common_dimension: dimensions.common,
+    }
+}
+
+fn pooled_image(pooled: Pooled) -> PooledImage {
+    let receiver = pooled.receiver;
+    let answer = pooled.answer;
+    match answer {
+        PoolAnswer::Done(dimensions) => pooled_of(receiver, 0, dimensions),
+        PoolAnswer::Refused(refusal) => {
+            let none = Dimensions {
+                joint: 0,
+                common: 0,
+            };
+            pooled_of(receiver, refusal, none)
+        }
+    }
+}
+
+#[no_mangle]
+pub extern "C" fn harness_pool(
+    a: Image,
+    b: Image,
+    joint: &mut [u8],
+    common: &mut [u8],
+) -> PooledImage {
+    pooled_image(pool::pool(receiver_of(a), receiver_of(b), joint, common))
 }

@@ -125,6 +125,15 @@ fn well_formed(q: u64, n: u64, k: u64, dimension: u64, entries: &[u8]) -> Formed
 }
 
 impl Receiver {
+    // Whether the receiver is one that Start and Take can leave after an accepted Start.
+    pub fn is_formed(self) -> bool
+        ensures { λ r. ⌜ r ≡ wellFormed self ⌝ }
+    {
+        let entries = self.entries;
+        let found = well_formed(self.q, self.n, self.k, self.dimension, &entries);
+        found.formed
+    }
+
     // The first refusal of Take that applies; 0 where none does.
     fn take_refusal(self, row: &[u8]) -> Tested
         ensures { λ r. ⌜ (r .refusal ≡ takeRefusal self (now (row .entry)))

@@ -44,7 +44,8 @@ accepted r (takeValue o ∷ cs) =
     pick (eqb (takeNumber ((takeOf r (o .row)) .answer)) 0) (o .row ∷ accepted ((takeOf r (o .row)) .receiver) cs)
     (accepted ((takeOf r (o .row)) .receiver) cs)
 accepted r (takeLent o ∷ cs) =
-    pick (eqb (takeNumber (lentAnswer r (o .row))) 0) (o .row ∷ accepted (lentReceiver r (o .row)) cs) (accepted (lentReceiver r (o .row)) cs)
+    pick (eqb (takeNumber (lentAnswer r (o .row))) 0) (o .row ∷ accepted (lentReceiver r (o .row)) cs)
+    (accepted (lentReceiver r (o .row)) cs)
 accepted r (close t ∷ cs) = accepted r cs
 
 -- the receiver that Start hands back

@@ -5,9 +5,9 @@
 -- which every row accepted is such a mixture: closing after it, in the draw's numbering, gives back the drawn index, unrefused, exactly
 -- when the accepted rows span k dimensions; if fewer, it refuses with 8 and their true dimension. Receive, given none to 64 such rows in
 -- one call, in that numbering, answers alike for them." `Flat` says it once more, without a record, under the user's words.
---   Listing q n k t      == drawing 0 to N-1. Document 01: "A listing by Draw is told by separate draws: every index below N gives a reduced
---                           k×n matrix, unrefused; each such matrix comes from exactly one of these indexes; and of any two of these indexes
---                           the smaller gives the matrix that comes first in the numbering's order."
+--   Listing q n k t      == drawing 0 to N-1. Document 01: "A listing by Draw is told by separate draws: every index below N gives a
+--                           reduced k×n matrix, unrefused; each such matrix comes from exactly one of these indexes; and of any two of
+--                           these indexes the smaller gives the matrix that comes first in the numbering's order."
 --   Answer               == what an answer tells in document 01's numbers: the refusal number, the index and the dimension
 --   told k a             == what an answer of Receive or Close tells
 --   littleEndian bytes   == the number that bytes tell, the first byte least: the sum of each times a power of 256
@@ -16,8 +16,8 @@
 --                           dimension if that is fewer; and it is never more
 --   Recovery q n k t i cs == closing after the list cs answers so for the rows that were accepted
 --   Reception q n k t i rows == Receive of the rows answers so, by value and for C
---   Demand q n k t       == all of it; and of every list of calls, mixtures or not: "No call of the list is refused 14. A row is accepted when
---                           Take names no refusal for it, so here when it is n bytes, each below q."
+--   Demand q n k t       == all of it; and of every list of calls, mixtures or not: "No call of the list is refused 14. A row is accepted
+--                           when Take names no refusal for it, so here when it is n bytes, each below q."
 -- Assumes nothing.
 use mathlib.Core.Path.{_≡_}
 use mathlib.Core.Logic.{_↔_}

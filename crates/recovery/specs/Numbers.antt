@@ -1,10 +1,9 @@
 -- Demand 2, as the calls answer it, for settings and a numbering that are accepted. The user: "A reduced matrix gets the extended or
 -- Ferrers index that Silberstein and Etzion define, and an index below the count gets the matrix with that index. Received rows are
--- numbered by the
--- one reduced matrix that spans the same space."
---   Numbers q n k t    == Number of a reduced matrix is its index by the numbering's formula; Draw of that index leaves the matrix; Number of
---                         what Draw leaves is the index; Convert of a reduced matrix's index is its index in the other numbering, never 15;
---                         and Receive, its C form and Close answer for rows as `spaceAnswer` for the reduced matrix with their span
+-- numbered by the one reduced matrix that spans the same space."
+--   Numbers q n k t    == Number of a reduced matrix is its index by the numbering's formula; Draw of that index leaves the matrix; Number
+--                         of what Draw leaves is the index; Convert of a reduced matrix's index is its index in the other numbering, never
+--                         15; and Receive, its C form and Close answer for rows as `spaceAnswer` for the reduced matrix with their span
 --   demand-2           == it holds for all settings and numberings that are accepted
 --   demand-2-flat      == the same without a record, under the user's words
 -- Assumes nothing.
@@ -67,7 +66,8 @@ module _ (q n k : ℕ) (settings : settingsRefusal q n k ≡ 0) where
       → convertOf q n k t to (indexOf q n k t m) ≡ Done (indexIn to (indexOf q n k to m))
   unfolding convertOf
   converts t to known other m R =
-      sym (done _ _ _ (convert-unrefused q n k t to (indexOf q n k t m) (unrefused q n k t settings known) other (orderly t .index-below m R)))
+      sym (done _ _ _ (convert-unrefused q n k t to (indexOf q n k t m) (unrefused q n k t settings known) other
+      (orderly t .index-below m R)))
       ∙ ap counterpart (ap (numberOf q n k to) (orderly t .drawn-of-index m R) ∙ numbers to other m R)
 
   -- the answer for the span of rows, by any reduced matrix that has it
@@ -82,7 +82,9 @@ module _ (q n k : ℕ) (settings : settingsRefusal q n k ≡ 0) where
       record {
         by-formula = numbers t known;
         drawn-back =
-            λ m R b l. sym (leaves q n k t settings known (indexOf q n k t m) (orderly t .index-below m R) b l) ∙ orderly t .drawn-of-index m R;
+            λ m R b l.
+            sym (leaves q n k t settings known (indexOf q n k t m) (orderly t .index-below m R) b l)
+            ∙ orderly t .drawn-of-index m R;
         numbered-back =
             λ i h b l.
             ap (numberOf q n k t) (sym (leaves q n k t settings known i h b l))

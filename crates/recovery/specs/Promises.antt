@@ -1,6 +1,6 @@
 -- What further sentences of document 01 promise of the calls, said of spans.
---   reduce-spans   == "The output holds the reduced rows, then zeros; the answer is the dimension": where Reduce is not refused, it answers a d
---                     that is the rows' dimension, and leaves a reduced matrix of d rows with their span, then zeros
+--   reduce-spans   == "The output holds the reduced rows, then zeros; the answer is the dimension": where Reduce is not refused, it
+--                     answers a d that is the rows' dimension, and leaves a reduced matrix of d rows with their span, then zeros
 --   close-more     == closing more than k dimensions refuses with 9 and the true dimension
 --   receive-more   == so does Receive
 --   receive-agrees == by value Receive answers as its C form does with nine bytes

@@ -69,6 +69,10 @@ receiverRefusal = 14
 abbrev pub noCounterpartRefusal : ℕ
 noCounterpartRefusal = 15
 
+-- two receivers differ in q, n or k
+abbrev pub mismatchRefusal : ℕ
+mismatchRefusal = 16
+
 unfoldable pub refuseUnless : Bool → ℕ → ℕ
 refuseUnless holds refusal = pick holds 0 refusal
 

@@ -2,9 +2,9 @@
 --   Call        == a call with its arguments; matrices and rows are flat, row by row; t is the numbering; a lent buffer is given as it is
 --                  before the call
 --   answer      == document 01's numbers for the call, by the definitions that the contracts cite: the refusal number (0 for none), then
---                  what the call answers (count; index; dimension; 1 for "raised"), then the lent buffer or the receiver afterwards; of the
---                  list program, all that it writes; of an index, its summands; of the line
---                  writer, 1 where the piece fits, how far the buffer is then filled, and the buffer
+--                  what the call answers (count; index; dimension, of Pool two; 1 for "raised"), then the receiver and the lent buffers
+--                  afterwards; of the list program, all that it writes; of an index, its summands; of the line writer, 1 where the piece
+--                  fits, how far the buffer is then filled, and the buffer
 --   Example     == a call and what it must answer
 --   lent size   == a buffer painted with 165s
 --   receiver, image == a receiver by its fields, entries of 0 after the given ones; and back
@@ -26,6 +26,7 @@ use Rattle.receive.specs.Receive.{receiveOf}
 use Rattle.receive.specs.declared.Received.{Received}
 use Rattle.receiver.specs.Receiver.{startOf, startNumber, takeOf, takeNumber, takeRaised, lentReceiver, lentAnswer, closeOf}
 use Rattle.receiver.specs.declared.Receiver.{Receiver}
+use Rattle.pool.specs.Pool.{poolOf, jointBuffer, commonBuffer, poolNumber, poolJoint, poolCommon}
 use Rattle.pandrwyg.specs.Exported.{exportedNumber, exportedBytes}
 
 pub data Call : Type 0 where
@@ -40,6 +41,7 @@ pub data Call : Type 0 where
   takeValue : (r : Receiver) (row : List ℕ) → Call
   takeLent : (r : Receiver) (row : List ℕ) → Call
   close : (r : Receiver) (t : ℕ) → Call
+  pool : (a b : Receiver) (joint common : List ℕ) → Call
   list : (input : List ℕ) → Call
   summands : (q n k : ℕ) (m : List ℕ) → Call
   write : (buffer : List ℕ) (filled : ℕ) (piece : List ℕ) → Call
@@ -73,6 +75,11 @@ answer (takeValue r row) =
     takeNumber ((takeOf r row) .answer) ∷ bit (takeRaised ((takeOf r row) .answer)) ∷ image ((takeOf r row) .receiver)
 answer (takeLent r row) = takeNumber (lentAnswer r row) ∷ bit (takeRaised (lentAnswer r row)) ∷ image (lentReceiver r row)
 answer (close r t) = received (r .k) (closeOf r t)
+answer (pool a b joint common) =
+    let p = poolOf a b (length joint) (length common) in
+    poolNumber (p .answer) ∷ poolJoint (p .answer) ∷ poolCommon (p .answer) ∷ image (p .receiver)
+    ++ jointBuffer a b joint (length common)
+    ++ commonBuffer a b (length joint) common
 answer (list input) = listingOutput input
 answer (summands q n k m) =
     largerDiagrams q k (n - k) (size n k m)

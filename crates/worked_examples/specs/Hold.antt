@@ -39,6 +39,8 @@ use Rattle.reduce.specs.Reduce.{reduceRefusal, reduceOf, reduceBuffer}
 use Rattle.receive.specs.Answer.{spaceRefusal, spaceAnswer}
 use Rattle.receive.specs.Receive.{rowsRefusal, receiveRefusal, receiveOf}
 use Rattle.receiver.specs.Receiver.{startOf, wellFormed, heldRows, holding, takeRefusal, takenIn, takeOf, closeRefusal, closeOf}
+use Rattle.spaces.specs.Spaces.{jointOf, jointDimension, wide, wideRows, stacked, rightHalves, commonRows, commonOf, commonDimension}
+use Rattle.pool.specs.Pool.{alike, poolRefusal, pooled, poolOf, jointBuffer, commonBuffer}
 use Rattle.pandrwyg.specs.Exported.{bytesOf, exportedRefusal, exportedNumber, exportedOf, exportedBytes}
 use Rattle.text.specs.Piece.{placeAfter, bufferAfter}
 use Rattle.text.specs.Text.{numeralWithin, numeral}
@@ -81,7 +83,8 @@ unfolding placeAfter bufferAfter listingOutput columnNames header linesFrom list
     numberingOf choiceRefusal drawRefusal drawBuffer entriesRefusal numberRefusal numberOf reduceRefusal reduceBuffer spaceAnswer
     rowsRefusal receiveRefusal receiveOf allBelow sum sumRange value tabulate padded refusedWord refusedLine reduceOf convertRefusal
     convertNumber convertOf startOf wellFormed heldRows holding takeRefusal takenIn takeOf closeRefusal closeOf bytesOf exportedRefusal
-    exportedNumber exportedOf exportedBytes spaceRefusal
+    exportedNumber exportedOf exportedBytes spaceRefusal jointOf jointDimension wide wideRows stacked rightHalves commonRows commonOf
+    commonDimension alike poolRefusal pooled poolOf jointBuffer commonBuffer
 every = each (marked ++ (readings ++ refusals)) refl
 
 front : {P : Example → Type 0} (xs ys : List Example) → All P (xs ++ ys) → All P xs

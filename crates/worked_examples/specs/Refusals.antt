@@ -7,6 +7,7 @@ use lib.ListN.{replicate}
 use Rattle.receiver.specs.declared.Receiver.{Receiver}
 use Rattle.worked_examples.specs.Answer.{Example, _⇒_, lent, receiver, image, paper}
 use Rattle.worked_examples.specs.Answer.{count, draw, number, convert, reduce, receive, receiveC, start, takeValue, takeLent, close}
+use Rattle.worked_examples.specs.Answer.{pool}
 use Rattle.worked_examples.specs.Answer.{list, write}
 
 -- receivers of 2,3,2 that hold no row, the row 110, the rows 101/011, and all three unit rows; one of 2,3,1 that holds 010
@@ -24,6 +25,28 @@ threeRows = receiver 2 3 2 3 (1 ∷ 0 ∷ 0 ∷ 0 ∷ 1 ∷ 0 ∷ 0 ∷ 0 ∷ 1 
 
 abbrev middle : Receiver
 middle = receiver 2 3 1 1 (0 ∷ 1 ∷ 0 ∷ [])
+
+-- receivers of 2,3,2 that hold 100/010, and 010/001; of 3,2,1 that hold 12, and 10; like the first, but for q, for n and for k
+abbrev leftPlane : Receiver
+leftPlane = receiver 2 3 2 2 (1 ∷ 0 ∷ 0 ∷ 0 ∷ 1 ∷ 0 ∷ [])
+
+abbrev rightPlane : Receiver
+rightPlane = receiver 2 3 2 2 (0 ∷ 1 ∷ 0 ∷ 0 ∷ 0 ∷ 1 ∷ [])
+
+abbrev slanted : Receiver
+slanted = receiver 3 2 1 1 (1 ∷ 2 ∷ [])
+
+abbrev level : Receiver
+level = receiver 3 2 1 1 (1 ∷ 0 ∷ [])
+
+abbrev otherField : Receiver
+otherField = receiver 3 3 2 2 (1 ∷ 0 ∷ 0 ∷ 0 ∷ 1 ∷ 0 ∷ [])
+
+abbrev otherLength : Receiver
+otherLength = receiver 2 4 2 0 []
+
+abbrev otherDimension : Receiver
+otherDimension = receiver 2 3 1 2 (1 ∷ 0 ∷ 0 ∷ 0 ∷ 1 ∷ 0 ∷ [])
 
 -- receivers that Start and Take cannot leave: of all zeros; a dimension above n; no field size; an entry of q; a zero row; entries that
 -- are not 0 where there is no row, and behind a row
@@ -207,6 +230,27 @@ refusals =
     ∷ (receiveC 2 3 2 1 1 (0 ∷ 2 ∷ 0 ∷ []) (lent 9) ⇒ (6 ∷ (lent 9)))
     -- and where none applies: the index 928, least byte first, then the dimension
     ∷ (receiveC 2 6 3 1 3 paper (lent 9) ⇒ (0 ∷ (160 ∷ 3 ∷ 0 ∷ 0 ∷ 0 ∷ 0 ∷ 0 ∷ 0 ∷ 3 ∷ [])))
+    -- Pool: the refusal number, the dimensions of the joint and of the common space, the receiver, of all zeros where it refuses, and both
+    -- buffers; 14 for the first receiver and for the second; 16 where q, n or k differ; 4 for the first buffer and for the second
+    ∷ (pool zeroRow rightPlane (lent 9) (lent 9) ⇒ (14 ∷ 0 ∷ 0 ∷ image zeros ++ (lent 9 ++ lent 9)))
+    ∷ (pool leftPlane leftOver (lent 9) (lent 9) ⇒ (14 ∷ 0 ∷ 0 ∷ image zeros ++ (lent 9 ++ lent 9)))
+    ∷ (pool leftPlane otherField (lent 9) (lent 9) ⇒ (16 ∷ 0 ∷ 0 ∷ image zeros ++ (lent 9 ++ lent 9)))
+    ∷ (pool leftPlane otherLength (lent 9) (lent 9) ⇒ (16 ∷ 0 ∷ 0 ∷ image zeros ++ (lent 9 ++ lent 9)))
+    ∷ (pool leftPlane otherDimension (lent 9) (lent 9) ⇒ (16 ∷ 0 ∷ 0 ∷ image zeros ++ (lent 9 ++ lent 9)))
+    ∷ (pool leftPlane rightPlane (lent 8) (lent 9) ⇒ (4 ∷ 0 ∷ 0 ∷ image zeros ++ (lent 8 ++ lent 9)))
+    ∷ (pool leftPlane rightPlane (lent 9) (lent 10) ⇒ (4 ∷ 0 ∷ 0 ∷ image zeros ++ (lent 9 ++ lent 10)))
+    -- of two neighbours the first is told
+    ∷ (pool zeroRow otherField (lent 9) (lent 9) ⇒ (14 ∷ 0 ∷ 0 ∷ image zeros ++ (lent 9 ++ lent 9)))
+    ∷ (pool otherField leftOver (lent 9) (lent 9) ⇒ (14 ∷ 0 ∷ 0 ∷ image zeros ++ (lent 9 ++ lent 9)))
+    ∷ (pool leftPlane otherLength (lent 8) (lent 9) ⇒ (16 ∷ 0 ∷ 0 ∷ image zeros ++ (lent 8 ++ lent 9)))
+    -- and where none applies: two planes have the whole space and the line 010; 12 and 10 over three elements the plane and nothing; a
+    -- receiver that holds nothing changes nothing
+    ∷ (pool leftPlane rightPlane (lent 9) (lent 9)
+    ⇒ (0 ∷ 3 ∷ 1 ∷ image threeRows ++ (1 ∷ 0 ∷ 0 ∷ 0 ∷ 1 ∷ 0 ∷ 0 ∷ 0 ∷ 1 ∷ 0 ∷ 1 ∷ 0 ∷ 0 ∷ 0 ∷ 0 ∷ 0 ∷ 0 ∷ 0 ∷ [])))
+    ∷ (pool slanted level (lent 4) (lent 4)
+    ⇒ (0 ∷ 2 ∷ 0 ∷ image (receiver 3 2 1 2 (1 ∷ 0 ∷ 0 ∷ 1 ∷ [])) ++ (1 ∷ 0 ∷ 0 ∷ 1 ∷ 0 ∷ 0 ∷ 0 ∷ 0 ∷ [])))
+    ∷ (pool noRows twoRows (lent 9) (lent 9)
+    ⇒ (0 ∷ 2 ∷ 0 ∷ image twoRows ++ (1 ∷ 0 ∷ 1 ∷ 0 ∷ 1 ∷ 1 ∷ 0 ∷ 0 ∷ 0 ∷ 0 ∷ 0 ∷ 0 ∷ 0 ∷ 0 ∷ 0 ∷ 0 ∷ 0 ∷ 0 ∷ [])))
     -- Start: the refusal number, and the receiver, which is of all zeros where it refuses
     ∷ (start 4 3 1 ⇒ (1 ∷ (image zeros)))
     ∷ (start 2 17 1 ⇒ (2 ∷ (image zeros)))

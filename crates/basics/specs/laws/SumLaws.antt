@@ -32,7 +32,8 @@ sum-units (suc n) f h =
 pub sum-split : (a b : ℕ) (f : ℕ → ℕ) → sum (a + b) f ≡ sum a f + sum b (λ i. f (a + i))
 unfolding sum
 sum-split a zero f = rw (add-zero a, add-zero)
-sum-split a (suc b) f = ap (λ x. sum x f) (add-suc a b) ∙ ap (λ x. x + f (a + b)) (sum-split a b f) ∙ add-assoc (sum a f) (sum b (λ i. f (a + i))) (f (a + b))
+sum-split a (suc b) f =
+    ap (λ x. sum x f) (add-suc a b) ∙ ap (λ x. x + f (a + b)) (sum-split a b f) ∙ add-assoc (sum a f) (sum b (λ i. f (a + i))) (f (a + b))
 
 pub sum-front : (n : ℕ) (f : ℕ → ℕ) → sum (suc n) f ≡ f 0 + sum n (λ i. f (suc i))
 unfolding sum

@@ -9,7 +9,8 @@ use borrow.Author.Needs.{needs}
 use Rattle.draw.proofs.draw.Statement.{statement}
 use Rattle.draw.proofs.draw.Tie as tie
 
-unrefused : (c : tie.Else1) → let a = c .before .before .before .args in drawRefusal (a .q) (a .n) (a .k) (a .t) (a .index) (length (a .matrix .now)) ≡ 0
+unrefused : (c : tie.Else1)
+    → let a = c .before .before .before .args in drawRefusal (a .q) (a .n) (a .k) (a .t) (a .index) (length (a .matrix .now)) ≡ 0
 unrefused c = sym (c .before .draw-refusal .ensures) ∙ c .if1 .left
 
 draw-refusal-requires : tie.Need-draw-refusal-requires
@@ -20,7 +21,8 @@ unfolding drawBuffer
 returns c = let e = c .before .draw-refusal .ensures in (e, kept _ _ _ (λ z. c .if1 .taken (e ∙ z)))
 
 unrank-requires : tie.Need-unrank-requires
-unrank-requires c κs = let a = draw-accepted _ _ _ _ _ _ (unrefused (c .before)) in (a .choice .settings, omega (arith, a .inside), a .sized)
+unrank-requires c κs =
+    let a = draw-accepted _ _ _ _ _ _ (unrefused (c .before)) in (a .choice .settings, omega (arith, a .inside), a .sized)
 
 same-length : tie.Need-same-length
 same-length c = search needs

@@ -19,7 +19,8 @@ chose c = sym (c .before .choice-refusal .ensures) ∙ c .if1 .left
 choice : (c : tie.Else1) → let a = c .before .before .args in Chosen (a .q) (a .n) (a .k) (a .t)
 choice c = chosen _ _ _ _ (chose c)
 
-counted : (c : tie.After-coefficient) → let a = c .before .before .before .before .args in c .coefficient .result ≡ gaussian (a .q) (a .n) (a .k)
+counted : (c : tie.After-coefficient)
+    → let a = c .before .before .before .before .args in c .coefficient .result ≡ gaussian (a .q) (a .n) (a .k)
 counted c = c .coefficient .ensures ∙ entry-of-accepted _ _ _ (choice (c .before .before) .settings)
 
 choice-refusal-requires : tie.Need-choice-refusal-requires

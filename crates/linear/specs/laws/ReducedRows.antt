@@ -1,6 +1,7 @@
 -- A reduced matrix and its rows.
 --   reduced-rows    == the rows of a reduced matrix are rows
 --   rows-sized      == rows have length n
+--   join-below      == the entries of joined rows are below q
 --   reduced-echelon == they are reduced as Echelon says
 --   echelon-reduced == rows that are reduced so, joined, are a reduced matrix
 -- Assumes nothing.
@@ -34,7 +35,7 @@ module _ (q n : ℕ) where
   pub rows-sized : {rows : List (List ℕ)} → All (Row q n) rows → All (λ r. length r ≡ n) rows
   rows-sized = all-map (λ r h. h .0)
 
-  join-below : {rows : List (List ℕ)} → All (Row q n) rows → All (λ a. a < q) (join rows)
+  pub join-below : {rows : List (List ℕ)} → All (Row q n) rows → All (λ a. a < q) (join rows)
   unfolding join
   join-below none = none
   join-below (more h hs) = all-append (h .1) (join-below hs)

@@ -1,5 +1,6 @@
 -- What the reduced matrix of a list of rows depends on: the span alone.
---   reducedOf-rearranged == order and repeats do not matter: two lists, each row of which stands somewhere in the other
+--   matrix-same          == lists with the same span have the same dimension and reduced matrix
+--   reducedOf-rearranged == so order and repeats do not matter: two lists, each row of which stands somewhere in the other
 --   reducedRows-again    == reduced rows are their own reduced rows
 --   within-dimension     == rows in the span of a reduced matrix of k rows have at most dimension k, and k only where it is their matrix
 -- Assumes nothing.
@@ -20,12 +21,12 @@ use Rattle.linear.specs.laws.Unique.{reduced-within}
 use Rattle.linear.specs.laws.ReducedOf.{reducedOf-reduced, reducedOf-rows, reducedOf-span, reducedOf-unique}
 
 module _ (q : ℕ) (laws : Laws q) (n : ℕ) where
-  reducedOf-same : (rows others : List (List ℕ)) → All (Row q n) rows → All (Row q n) others → SameSpan q n rows others
-      → reducedOf q n rows ≡ reducedOf q n others
+  pub matrix-same : (rows others : List (List ℕ)) → All (Row q n) rows → All (Row q n) others → SameSpan q n rows others
+      → (dimension q n rows ≡ dimension q n others) × (reducedOf q n rows ≡ reducedOf q n others)
   unfolding SameSpan
-  reducedOf-same rows others h g s =
+  matrix-same rows others h g s =
       reducedOf-unique q laws n others g (dimension q n rows) (reducedOf q n rows) (reducedOf-reduced q laws n rows h)
-      (λ v. (λ x. s v .0 (reducedOf-span q laws n rows h v .0 x), λ x. reducedOf-span q laws n rows h v .1 (s v .1 x))) .1
+      (λ v. (λ x. s v .0 (reducedOf-span q laws n rows h v .0 x), λ x. reducedOf-span q laws n rows h v .1 (s v .1 x)))
 
   stands-in : (rows others : List (List ℕ)) → All (Row q n) others
       → ((i : ℕ) → i < length rows → (j : ℕ) × (j < length others) × (getD others j [] ≡ getD rows i [])) → All (InSpan q n others) rows
@@ -37,7 +38,7 @@ module _ (q : ℕ) (laws : Laws q) (n : ℕ) where
       → ((j : ℕ) → j < length others → (i : ℕ) × (i < length rows) × (getD rows i [] ≡ getD others j []))
       → reducedOf q n rows ≡ reducedOf q n others
   reducedOf-rearranged rows others h g there back =
-      reducedOf-same rows others h g (span-same q laws n rows others h g (stands-in rows others g there) (stands-in others rows h back))
+      matrix-same rows others h g (span-same q laws n rows others h g (stands-in rows others g there) (stands-in others rows h back)) .1
 
   pub reducedRows-again : (rs : List (List ℕ)) → All (Row q n) rs → Reduced q n (length rs) (join rs) → reducedRows q n rs ≡ rs
   unfolding SameSpan

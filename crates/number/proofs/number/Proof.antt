@@ -41,7 +41,8 @@ returns-2 c =
     let same : notReducedRefusal ≡ numberRefusal (a .q) (a .n) (a .k) (a .t) (a .matrix .now) =
     sym (first-passed _ _ (unrefused (c .before .before .before)) ∙ test-refused _ _ _ tt form)
     in
-    let e = ap Refused same ∙ kept (numberRefusal (a .q) (a .n) (a .k) (a .t) (a .matrix .now)) _ _ (λ z. absurd (omega (arith, same, z))) in
+    let e = ap Refused same ∙ kept (numberRefusal (a .q) (a .n) (a .k) (a .t) (a .matrix .now)) _ _ (λ z. absurd (omega (arith, same, z)))
+    in
     (e, number-told _ _ _ _ _ _ e)
 
 rank-requires : tie.Need-rank-requires

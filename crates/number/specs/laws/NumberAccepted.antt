@@ -64,5 +64,6 @@ module _ (q n k t : ℕ) (m : List ℕ) where
       let refusal = numberRefusal q n k t m in
       let index = Done (indexIn t (indexOf q n k t m)) in (
         ap answerNumber e ∙ told-number refusal index (Refused refusal) answerNumber refl refl,
-        ap answerIndex e ∙ told-value refusal index (Refused refusal) answerIndex (indexOf q n k t m) (typed-value t (indexOf q n k t m)) refl,
+        ap answerIndex e ∙ told-value refusal index (Refused refusal) answerIndex (indexOf q n k t m) (typed-value t (indexOf q n k t m))
+            refl,
       )

@@ -1,11 +1,11 @@
 -- `receive::reduced_answer` meets its contract: the reduced rows stand first in the array, and are a reduced matrix.
 use mathlib.Core.Path.{_≡_, ap, ap₂, _∙_, sym, subst}
 use mathlib.Core.List.{List, _++_}
-use Prim.Native.Nat.{ℕ, min, _+_, _*_, _-_, _≤_}
-use native.Mathlib.Nat.{min-eq-left, mul-le-mul}
+use Prim.Native.Nat.{ℕ, _+_, _*_, _-_, _≤_}
+use native.Mathlib.Nat.{mul-le-mul}
 use native.Mathlib.Omega.{arith}
-use lib.ListN.{length, take, drop, replicate, length-take, length-drop, length-append, length-replicate, replicate-append-replicate}
-use lib.Seq.{take-at}
+use lib.ListN.{length, take, drop, replicate, length-drop, length-append, length-replicate}
+use Rattle.basics.specs.laws.Replicate.{take-replicate, zeros-lent}
 use Rattle.field.specs.laws.Decide.{laws}
 use Rattle.matrix.specs.laws.Tests.{entries-below}
 use Rattle.matrix.specs.Matrix.{pivot, Reduced}
@@ -25,14 +25,11 @@ zeros n = replicate n 0
 
 part : {size : ℕ} (n : ℕ) → size ≤ n → length (take size (zeros n)) ≡ size
 unfolding zeros
-part {size} n h = length-take size (zeros n) ∙ ap (min size) (length-replicate n 0) ∙ min-eq-left h
+part {size} n h = zeros-lent size n h
 
 front : {size : ℕ} (n : ℕ) → size ≤ n → take size (zeros n) ≡ zeros size
 unfolding zeros
-front {size} n h =
-    let e : size + (n - size) ≡ n = omega arith in
-    ap (λ x. take size (replicate x 0)) (sym e) ∙ ap (take size) (sym (replicate-append-replicate size (n - size) 0))
-    ∙ take-at (zeros size) (zeros (n - size)) size (length-replicate size 0)
+front {size} n h = take-replicate size n 0 h
 
 square : {n : ℕ} → n ≤ 16 → n * n ≤ 256
 square {n} h = mul-le-mul {n₁ = n} {m₁ = n} {n₂ = 16} {m₂ = 16} h h

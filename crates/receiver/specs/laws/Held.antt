@@ -38,7 +38,7 @@ zeros l size e z =
     (λ i h. let g : i < size = omega arith in z i g ∙ sym (getD-replicate size i 0 0 g))
 
 module _ (r : Receiver) (size : length (r .entries) ≡ 256) (s : Sound r) where
-  held-used : heldRows r ≡ rowsOf (r .n) (r .dimension) (used r)
+  pub held-used : heldRows r ≡ rowsOf (r .n) (r .dimension) (used r)
   unfolding heldRows
   held-used =
       ap (rowsOf (r .n) (r .dimension)) (sym (take-append-drop (r .dimension * r .n) (r .entries)))

@@ -40,7 +40,8 @@ space-number q n k t d m = cases (ltb d k) (ltb k d)
   where
     cases : (few many : Bool)
         → receivedNumber
-        (pick few (TooFew (record { dimension = d })) (pick many (TooMany (record { dimension = d })) (Done (indexIn t (indexOf q n k t m)))))
+        (pick few (TooFew (record { dimension = d }))
+        (pick many (TooMany (record { dimension = d })) (Done (indexIn t (indexOf q n k t m)))))
         ≡ receiverRefusal
         → ⊥
     cases true many e = omega arith
@@ -82,7 +83,8 @@ module _ (q n k : ℕ) (settings : settingsRefusal q n k ≡ 0) where
       record {
         left =
             ap (λ x. after x cs) e ∙ c .left
-            ∙ ap (holding q n k) (append-assoc rows (row ∷ []) (fitting q n (offered cs)) ∙ ap (λ (x : List (List ℕ)). rows ++ x) (sym here));
+            ∙ ap (holding q n k)
+            (append-assoc rows (row ∷ []) (fitting q n (offered cs)) ∙ ap (λ (x : List (List ℕ)). rows ++ x) (sym here));
         taken =
             ap (λ b. pick b (row ∷ accepted (t .receiver) cs) (accepted (t .receiver) cs)) (eq-eqb (takeNumber (t .answer)) 0 z)
             ∙ ap (λ (x : List (List ℕ)). row ∷ x) (ap (λ x. accepted x cs) e ∙ c .taken)

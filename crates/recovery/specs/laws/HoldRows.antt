@@ -121,12 +121,14 @@ module _ (q n k : ℕ) (settings : settingsRefusal q n k ≡ 0) (rows : List (Li
     same = ap length one-more
 
     pub take-taken : takeRefusal (holding q n k rows) row ≡ 0
-        → ((takeOf (holding q n k rows) row) .receiver ≡ holding q n k (rows ++ (row ∷ []))) × (takeNumber ((takeOf (holding q n k rows) row) .answer) ≡ 0)
+        → ((takeOf (holding q n k rows) row) .receiver ≡ holding q n k (rows ++ (row ∷ [])))
+        × (takeNumber ((takeOf (holding q n k rows) row) .answer) ≡ 0)
     unfolding holding takenIn takeOf reducedOf dimension
     take-taken z = (
       ap (λ (t : Taken). t .receiver) (sym (done (takeRefusal (holding q n k rows) row) _ _ z))
           ∙ ap (λ (x : List (List ℕ)). record { entries = padded 256 (join x); q = q; n = n; k = k; dimension = length x }) one-more,
-      ap (λ (t : Taken). takeNumber (t .answer)) (sym (done (takeRefusal (holding q n k rows) row) _ _ z)) ∙ unrefused (ltb (dimension q n rows) next),
+      ap (λ (t : Taken). takeNumber (t .answer)) (sym (done (takeRefusal (holding q n k rows) row) _ _ z))
+          ∙ unrefused (ltb (dimension q n rows) next),
     )
       where
         unrefused : (b : Bool) → takeNumber (pick b Raised Held) ≡ 0

@@ -65,7 +65,8 @@ module _ (q n k : ℕ) (settings : settingsRefusal q n k ≡ 0) where
   grown held h reached (more {x = row} {xs = rows} hr hs) =
       subst (λ x. Reachable (holding q n k x)) (append-assoc held (row ∷ []) rows)
       (grown (held ++ (row ∷ [])) (all-append h (more hr none))
-      (subst Reachable (take-taken q n k settings held h row (take-fits q n k settings held h row hr) .0) (taken (holding q n k held) row reached)) hs)
+      (subst Reachable (take-taken q n k settings held h row (take-fits q n k settings held h row hr) .0)
+      (taken (holding q n k held) row reached)) hs)
 
   pub holding-reachable : (rows : List (List ℕ)) → All (Row q n) rows → Reachable (holding q n k rows)
   holding-reachable rows h = grown [] none (subst Reachable (begun-holds q n k settings) (started q n k settings)) h

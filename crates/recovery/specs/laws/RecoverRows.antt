@@ -18,12 +18,12 @@ use Rattle.settings.specs.Settings.{settingsRefusal}
 use Rattle.settings.specs.laws.Accepted.{accepted as settings-accepted}
 use Rattle.matrix.specs.Matrix.{Reduced, entriesBelow}
 use Rattle.matrix.specs.laws.Tests.{entries-below-true}
-use Rattle.linear.specs.Span.{All, none, more, Row, InSpan, Mixed, rowsOf, HasDimension}
+use Rattle.linear.specs.Span.{All, none, Row, InSpan, Mixed, rowsOf, HasDimension}
 use Rattle.linear.specs.Eliminate.{join, reducedOf, dimension}
-use Rattle.linear.specs.laws.Every.{all-map, all-append, all-at}
+use Rattle.linear.specs.laws.Every.{all-map, all-at}
 use Rattle.linear.specs.laws.Mixture.{mixed-in-span}
 use Rattle.linear.specs.laws.FlatMatrix.{rows-join, join-length}
-use Rattle.linear.specs.laws.ReducedRows.{reduced-rows, rows-sized}
+use Rattle.linear.specs.laws.ReducedRows.{join-below, reduced-rows, rows-sized}
 use Rattle.numbering.specs.Numbering.{isNumbering, indexOf}
 use Rattle.numbering.specs.laws.Chosen.{unrefused}
 use Rattle.numbering.specs.laws.Either.{either, typed-value}
@@ -44,12 +44,6 @@ use Rattle.recovery.specs.laws.After.{after-holds, accepted-rows}
 use Rattle.recovery.specs.laws.LittleEndian.{read-bytes}
 use Rattle.recovery.specs.laws.Space.{within-rows, space-typed, space-fewer, space-whole-or-fewer, space-answers}
 
--- the entries of rows are below q
-join-below : {q n : ℕ} {rows : List (List ℕ)} → All (Row q n) rows → All (λ a. a < q) (join rows)
-unfolding join
-join-below none = none
-join-below (more h hs) = all-append (h .1) (join-below hs)
-
 module _ (q n k t : ℕ) (settings : settingsRefusal q n k ≡ 0) (known : isNumbering t ≡ true) where
   law : Laws q
   law = settings-laws q n k settings
@@ -69,13 +63,14 @@ module _ (q n k t : ℕ) (settings : settingsRefusal q n k ≡ 0) (known : isNum
 
   module _ (rows : List (List ℕ)) (h : All (Row q n) rows) (few : length rows ≤ mostRows) where
     below : entriesBelow q (join rows) ≡ true
-    below = entries-below-true q (join rows) (all-at (join-below h) 0)
+    below = entries-below-true q (join rows) (all-at (join-below q n h) 0)
 
     split : rowsOf n (length rows) (join rows) ≡ rows
     split = rows-join n (rows-sized q n h)
 
     rows-none : rowsRefusal q n k t (length rows) (length (join rows)) ≡ 0
-    rows-none = rows-unrefused q n k t (length rows) (length (join rows)) (unrefused q n k t settings known) few (join-length n (rows-sized q n h))
+    rows-none =
+        rows-unrefused q n k t (length rows) (length (join rows)) (unrefused q n k t settings known) few (join-length n (rows-sized q n h))
 
     pub receive-rows : receiveOf q n k t (length rows) (join rows) ≡ spaceAnswer q n k t (dimension q n rows) (reducedOf q n rows)
     unfolding receiveOf
@@ -83,7 +78,8 @@ module _ (q n k t : ℕ) (settings : settingsRefusal q n k ≡ 0) (known : isNum
         sym (done _ _ _ (receive-unrefused q n k t (length rows) (join rows) rows-none below))
         ∙ ap (λ x. spaceAnswer q n k t (dimension q n x) (reducedOf q n x)) split
 
-    pub exported-rows : exportedOf q n k t (length rows) (join rows) answerSize ≡ spaceAnswer q n k t (dimension q n rows) (reducedOf q n rows)
+    pub exported-rows : exportedOf q n k t (length rows) (join rows) answerSize
+        ≡ spaceAnswer q n k t (dimension q n rows) (reducedOf q n rows)
     unfolding exportedOf
     exported-rows =
         sym (done _ _ _ (exported-unrefused q n k t (length rows) (join rows) answerSize rows-none refl below))
@@ -149,7 +145,8 @@ module _ (q n k t : ℕ) (settings : settingsRefusal q n k ≡ 0) (known : isNum
 
       -- what C reads is what the answer tells
       reads : (b : List ℕ) → length b ≡ answerSize
-          → read (exportedNumber q n k t (length rows) (join rows) answerSize) (exportedBytes q n k t (length rows) (join rows) b) ≡ told k answer
+          → read (exportedNumber q n k t (length rows) (join rows) answerSize) (exportedBytes q n k t (length rows) (join rows) b)
+          ≡ told k answer
       reads b l = cases (space-whole-or-fewer q n k t settings m R rows each)
         where
           number : exportedNumber q n k t (length rows) (join rows) answerSize ≡ receivedNumber answer

@@ -78,7 +78,8 @@ module _ (q n k t : ℕ) (settings : settingsRefusal q n k ≡ 0) (m : List ℕ)
         never-more = λ d h. omega (arith, has d .0 h, within .0);
       }
     where
-      there : told k (spaceAnswer q n k t (dimension q n rows) (reducedOf q n rows)) ≡ record { number = 0; index = indexOf q n k t m; dimension = k }
+      there : told k (spaceAnswer q n k t (dimension q n rows) (reducedOf q n rows))
+          ≡ record { number = 0; index = indexOf q n k t m; dimension = k }
           → (dimension q n rows < k) ⊎ ((dimension q n rows ≡ k) ⊎ (k < dimension q n rows)) → dimension q n rows ≡ k
       there e (inl l) =
           let z = ap (λ a. a .number) (sym (ap (told k) (space-fewer _ (has _ .1 refl) l)) ∙ e) in

@@ -1,7 +1,7 @@
 -- Against emptiness of demand 3: the drawn rows themselves always give the index back. No part of the meaning.
 --   Among x xs           == x is one of xs
---   drawn-rows-recovered == a list of calls that offers each drawn row at least once, in any order and by either Take, and beside these only
---                           rows that are refused, and closes: closing after it gives the index
+--   drawn-rows-recovered == a list of calls that offers each drawn row at least once, in any order and by either Take, and beside these
+--                           only rows that are refused, and closes: closing after it gives the index
 --   takeAll rows         == the rows taken by value, one after the other
 --   drawn-rows-taken     == so taking the drawn rows from the top and closing gives the index
 --   drawn-bytes-received == and so does Receive of the drawn bytes
@@ -123,13 +123,15 @@ module _ (q n k t : ℕ) (settings : settingsRefusal q n k ≡ 0) (known : isNum
   pub drawn-rows-taken : closeOf (after (begun q n k) (takeAll (rowsOf n k (drawBuffer q n k t i b)))) t ≡ Done (indexIn t i)
   drawn-rows-taken =
       drawn-rows-recovered (takeAll drawnRows)
-      (subst (All (λ row. Among row drawnRows ⊎ (Row q n row → ⊥))) (sym (offered-all drawnRows)) (all-map (λ v a. inl a) (each-among drawnRows)))
+      (subst (All (λ row. Among row drawnRows ⊎ (Row q n row → ⊥))) (sym (offered-all drawnRows))
+      (all-map (λ v a. inl a) (each-among drawnRows)))
       (subst (λ rows. All (λ row. Among row rows) drawnRows) (sym (offered-all drawnRows)) (each-among drawnRows))
 
   pub drawn-bytes-received : receiveOf q n k t k (drawBuffer q n k t i b) ≡ Done (indexIn t i)
   unfolding HasDimension SameSpan
   drawn-bytes-received =
-      ap₂ (receiveOf q n k t) (sym (rows-length n k (drawBuffer q n k t i b))) (sym (join-rows n k (drawBuffer q n k t i b) (reduced .size)))
+      ap₂ (receiveOf q n k t) (sym (rows-length n k (drawBuffer q n k t i b)))
+      (sym (join-rows n k (drawBuffer q n k t i b) (reduced .size)))
       ∙ demand-3 q n k t settings known .reception i h b sized drawnRows few
       (all-map (λ v s. mixed-in-span q law n drawnRows valid v .1 s) (span-each q law n drawnRows valid)) .typed
       (drawBuffer q n k t i b, reduced, λ v. Iff·rfl)

@@ -2,6 +2,7 @@
 --   Holds            == the bytes hold the reduced rows rs, d of them, then zeros, and `pivots` their leads
 --   holds-start      == as `insert` and `insert_rows` ask for them
 --   holds-nothing    == no rows held in bytes that are all zeros, likewise
+--   holds-rows       == the rows read back
 --   holds-asks       == what taking in a row asks of the rows held
 --   holds-more       == after row i of a matrix
 --   holds-told       == as the contracts say it
@@ -54,12 +55,13 @@ insertRows-more q n rs input i =
 
 module _ (q : ℕ) (laws : Laws q) (n : ℕ) where
   module _ {rs : List (List ℕ)} {d : ℕ} {m pivots : List ℕ} (c : Holds q n rs d m pivots) where
-    same : rowsOf n d m ≡ rs
+    pub holds-rows : rowsOf n d m ≡ rs
     unfolding padded
-    same = ap₂ (rowsOf n) (c .count) (c .bytes) ∙ rows-joined n (replicate (n * n - length (join rs)) 0) (rows-sized q n (c .kept .rows))
+    holds-rows =
+        ap₂ (rowsOf n) (c .count) (c .bytes) ∙ rows-joined n (replicate (n * n - length (join rs)) 0) (rows-sized q n (c .kept .rows))
 
     pub holds-asks : Kept q n (rowsOf n d m) × (m ≡ padded (n * n) (join (rowsOf n d m))) × (take d pivots ≡ leads n (rowsOf n d m))
-    holds-asks = rw same (c .kept, c .bytes, c .known)
+    holds-asks = rw holds-rows (c .kept, c .bytes, c .known)
 
   -- v is row i of the input
   pub holds-more : (rs : List (List ℕ)) (input : List ℕ) (i : ℕ) {d : ℕ} {m pivots : List ℕ}
@@ -79,7 +81,7 @@ module _ (q : ℕ) (laws : Laws q) (n : ℕ) where
       taken = ap (insertRow q n (insertRows q n rs (rowsOf n i input))) is ∙ sym (insertRows-more q n rs input i)
 
       now : insertRow q n (rowsOf n d m) v ≡ insertRows q n rs (rowsOf n (suc i) input)
-      now = ap (λ x. insertRow q n x v) (same c) ∙ taken
+      now = ap (λ x. insertRow q n x v) (holds-rows c) ∙ taken
 
   module _ (rs : List (List ℕ)) (input : List ℕ) (count : ℕ) (rows : All (Row q n) (rowsOf n count input)) (i d : ℕ) {m pivots : List ℕ}
       (c : Holds q n (insertRows q n rs (rowsOf n i input)) d m pivots) (full : d ≡ n) where

@@ -86,7 +86,8 @@ module _ (q n k : ℕ) where
       (λ l.
       let z : gaussian q n k ≡ 0 = sym (ap (λ b. pick b (gaussian q n k) 0) (le-leb (gaussian q n k) greatestCount l)) ∙ c in
       absurd (omega (arith, gaussian-positive q n k d)))
-      (λ g. test-passed _ _ _ s ∙ test-passed _ _ _ (rw (r, le-leb k n d)) ∙ test-refused _ _ _ tt (lt-leb (gaussian q n k) greatestCount g))
+      (λ g. test-passed _ _ _ s ∙ test-passed _ _ _ (rw (r, le-leb k n d))
+      ∙ test-refused _ _ _ tt (lt-leb (gaussian q n k) greatestCount g))
       (le-or-lt (gaussian q n k) greatestCount)
 
   pub entry-of-accepted : Accepted q n k → tableEntry q n k ≡ gaussian q n k
@@ -95,7 +96,9 @@ module _ (q n k : ℕ) where
   pub count-told : (r : Counted) → r ≡ countOf q n k
       → (countNumber r ≡ settingsRefusal q n k) × (countValue r ≡ unlessRefused (settingsRefusal q n k) (gaussian q n k) 0)
   unfolding countOf
-  count-told r e = (
-    ap countNumber e ∙ told-number (settingsRefusal q n k) (Count (gaussian q n k)) (Refused (settingsRefusal q n k)) countNumber refl refl,
-    ap countValue e ∙ told-value (settingsRefusal q n k) (Count (gaussian q n k)) (Refused (settingsRefusal q n k)) countValue (gaussian q n k) refl refl,
-  )
+  count-told r e =
+      let refusal = settingsRefusal q n k in
+      let count = Count (gaussian q n k) in (
+        ap countNumber e ∙ told-number refusal count (Refused refusal) countNumber refl refl,
+        ap countValue e ∙ told-value refusal count (Refused refusal) countValue (gaussian q n k) refl refl,
+      )

@@ -1,0 +1,20 @@
+-- `pool::alike` meets its contract: the three comparisons, one after the other.
+use borrow.Author.Tests.{eq-eqb, ne-eqb}
+use Rattle.pool.specs.Pool.{alike}
+use Rattle.pool.proofs.alike.Statement.{statement}
+use Rattle.pool.proofs.alike.Tie as tie
+
+returns : tie.Need-returns
+unfolding alike
+returns c = rw (ne-eqb _ _ (c .if1 .taken))
+
+returns-2 : tie.Need-returns-2
+unfolding alike
+returns-2 c = rw (eq-eqb _ _ (c .before .before .before .if1 .left), ne-eqb _ _ (c .if2 .taken))
+
+returns-3 : tie.Need-returns-3
+unfolding alike
+returns-3 c = let e = c .before .before in rw (eq-eqb _ _ (e .before .before .before .if1 .left), eq-eqb _ _ (e .if2 .left))
+
+pub alike-spec : {M : Type 1} → statement M
+alike-spec = tie.close (tie.spec returns returns-2 returns-3)

@@ -1,0 +1,3 @@
+-- pool: two receivers pooled.
+pub mod Pool
+pub mod laws

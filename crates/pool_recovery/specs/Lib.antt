@@ -1,0 +1,5 @@
+-- pool_recovery: what pooling two receivers promises.
+pub mod Pooling
+pub mod Spaces
+pub mod Theorem
+pub mod laws

@@ -1,0 +1,1 @@
+// Two spaces of rows, joint and common: definitions and theorems, no code.

@@ -1,0 +1,90 @@
+/*
+ * What the tests of the receiver's calls share: receivers as the library and as the second implementation have them,
+ * receivers of a given dimension, and damage.
+ */
+#ifndef RECEIVERS_H
+#define RECEIVERS_H
+
+#include "cases.h"
+#include "check.h"
+#include "harness.h"
+
+static inline bool same_receiver(const harness_receiver *first, const harness_receiver *second)
+{
+    return memcmp(first, second, sizeof *first) == 0;
+}
+
+/* The receiver that the library must have where the second has this one. */
+static inline harness_receiver image_of(const second_receiver *model)
+{
+    harness_receiver image = {{0}, model->q, model->n, model->k, 0};
+    if (model->n > 0)
+        image.dimension = second_entries(model, image.entries);
+    return image;
+}
+
+/* The second's receiver in the place of the library's; refused 14 where no list of rows leads to it. */
+static inline uint32_t revive(const harness_receiver *receiver, second_receiver *model)
+{
+    return second_revive(receiver->q, receiver->n, receiver->k, receiver->dimension, receiver->entries, model);
+}
+
+/* ---- Rows ---- */
+
+static inline void random_mixture(uint64_t q, uint64_t n, uint64_t count, const uint8_t *rows, uint8_t *mixture)
+{
+    uint8_t factors[MAX_ROWS];
+    random_entries(q, factors, (size_t)count);
+    mix_rows(q, n, count, rows, factors, mixture);
+}
+
+/* A receiver of the given dimension, after random rows; as many as surely are enough, unless Take is at fault. */
+static inline harness_receiver receiver_of(uint64_t q, uint64_t n, uint64_t k, uint64_t dimension)
+{
+    harness_receiver receiver = harness_start(q, n, k).receiver;
+    uint8_t row[MAX_LENGTH];
+    for (unsigned rows = 0; rows < 500 && receiver.dimension < dimension; rows++) {
+        random_entries(q, row, (size_t)n);
+        receiver = harness_take(receiver, row, (size_t)n).receiver;
+    }
+    check(receiver.dimension == dimension, "dimension %" PRIu64 " not reached", dimension);
+    return receiver;
+}
+
+/* ---- Damage ---- */
+
+/* Changes the rows of a receiver that has some: mostly the same span, told by other rows. */
+static inline void damage_rows(harness_receiver *receiver)
+{
+    uint64_t q = receiver->q, n = receiver->n;
+    uint8_t kept[MAX_LENGTH], *row = receiver->entries + random_below(receiver->dimension) * n;
+    uint8_t *other = receiver->entries + random_below(receiver->dimension) * n;
+    memcpy(kept, row, (size_t)n);
+    switch (random_below(5)) {
+    case 0:
+        memmove(row, other, (size_t)n);
+        memcpy(other, kept, (size_t)n);
+        break;
+    case 1:
+        add_multiple(q, n, row, other, (uint8_t)random_below(q));
+        break;
+    case 2:
+        memset(row, 0, (size_t)n);
+        break;
+    case 3:
+        random_mixture(q, n, receiver->dimension, receiver->entries, row);
+        break;
+    default:
+        receiver->dimension += random_below(3) - 1;
+    }
+}
+
+/* Numbers in and out of range, those that would be cut to a number in range, and those whose products wrap to 0. */
+static const uint64_t forged[] = {
+    0, 1, 2, 3, 4, 5, 6, 7, 8, 9, 10, 11, 12, 13, 14, 15, 16, 17, 18, 32, 127, 128, 255, 256, 257, 258, 259, 261, 263,
+    272, 65536, 65538, UINT64_C(1) << 32, (UINT64_C(1) << 32) + 1, (UINT64_C(1) << 32) + 2, (UINT64_C(1) << 32) + 3,
+    UINT64_C(1) << 60, (UINT64_C(1) << 60) + 1, UINT64_C(1) << 61, UINT64_C(1) << 62, UINT64_C(1) << 63,
+    (UINT64_C(1) << 63) + 2, UINT64_MAX - 15, UINT64_MAX - 1, UINT64_MAX,
+};
+
+#endif
