@@ -468,9 +468,6 @@ static void round_trip_group(uint64_t numbering)
 
 /* ---- Receivers that any caller may hand in ---- */
 
-/* How many receivers were taken for reachable, and how many were refused, since the group began. */
-static uint64_t reachable, unreachable;
-
 /* Any receiver in the first place, in the second, and in both, with buffers right and wrong. */
 static void compare_any(const harness_receiver *any, const harness_receiver *good)
 {
@@ -487,18 +484,6 @@ static void compare_any(const harness_receiver *any, const harness_receiver *goo
                       both.pooled.refusal == REFUSED_RECEIVER),
           SETTING_FORMAT " of dimension %" PRIu64 ": refusals %u, %u, %u", SETTING_VALUES(any), any->dimension,
           first.pooled.refusal, second.pooled.refusal, both.pooled.refusal);
-}
-
-static void begin_any_group(void)
-{
-    reachable = 0;
-    unreachable = 0;
-}
-
-static void end_any_group(void)
-{
-    check(reachable > 0 && unreachable > 0, "%" PRIu64 " receivers reachable, %" PRIu64 " not", reachable, unreachable);
-    check_group_end();
 }
 
 /* Every byte of a receiver, those of its four numbers too, at several other values. */

@@ -259,9 +259,6 @@ static void figures_group(void)
 
 /* ---- Receivers that any caller may hand in ---- */
 
-/* How many receivers were taken for reachable, and how many were refused, since the group began. */
-static uint64_t reachable, unreachable;
-
 static void compare_unreachable(const harness_receiver *receiver, const uint8_t *row, size_t length)
 {
     for (take_form form = BY_VALUE; form <= LENT; form++) {
@@ -304,18 +301,6 @@ static void compare_any(const harness_receiver *receiver)
     random_entries(random_below(4) == 0 ? 256 : 2, row, ROW_LIMIT);
     compare_unreachable(receiver, row, random_below(2) == 0 && receiver->n < ROW_LIMIT ? (size_t)receiver->n
                                                                                       : random_below(ROW_LIMIT + 1));
-}
-
-static void begin_any_group(void)
-{
-    reachable = 0;
-    unreachable = 0;
-}
-
-static void end_any_group(void)
-{
-    check(reachable > 0 && unreachable > 0, "%" PRIu64 " receivers reachable, %" PRIu64 " not", reachable, unreachable);
-    check_group_end();
 }
 
 /* Every byte of a receiver, those of its four numbers too, at each of the 255 other values. */

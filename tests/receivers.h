@@ -51,6 +51,23 @@ static inline harness_receiver receiver_of(uint64_t q, uint64_t n, uint64_t k, u
     return receiver;
 }
 
+/* ---- Groups of receivers of which some are reachable ---- */
+
+/* How many receivers were taken for reachable, and how many were refused, since the group began. */
+static uint64_t reachable, unreachable;
+
+static inline void begin_any_group(void)
+{
+    reachable = 0;
+    unreachable = 0;
+}
+
+static inline void end_any_group(void)
+{
+    check(reachable > 0 && unreachable > 0, "%" PRIu64 " receivers reachable, %" PRIu64 " not", reachable, unreachable);
+    check_group_end();
+}
+
 /* ---- Damage ---- */
 
 /* Changes the rows of a receiver that has some: mostly the same span, told by other rows. */
