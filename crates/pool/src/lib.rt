@@ -2,17 +2,12 @@
 ghost use mathlib.Core.Path.{_≡_};
 ghost use mathlib.Core.Bool.{true};
 ghost use mathlib.Core.List.{_++_};
-ghost use Prim.Native.Nat.{_+_, _*_, _≤_};
-ghost use lib.Dec.{ltb};
-ghost use lib.ListN.{length, take, drop};
-ghost use lib.Seq.{paste};
-ghost use Rattle.basics.specs.Choice.{pick};
+ghost use Prim.Native.Nat.{_+_, _*_};
+ghost use lib.ListN.{length};
 ghost use Rattle.refusal.specs.Refusal.{unlessRefused};
-ghost use Rattle.linear.specs.Span.{rowsOf};
 ghost use Rattle.linear.specs.Eliminate.{join};
 ghost use Rattle.reduction.specs.Padded.{padded};
-ghost use Rattle.reduction.specs.laws.Steps.{leads};
-ghost use Rattle.spaces.specs.Spaces.{wide, wideRows, stacked as stackedOf, rightHalves, jointDimension, commonOf, commonDimension};
+ghost use Rattle.spaces.specs.Spaces.{stacked as stackedOf, jointDimension, commonOf, commonDimension};
 ghost use Rattle.receiver.specs.Receiver.{wellFormed, heldRows, holding};
 ghost use Rattle.pool.specs.Pool.{alike as alikeOf, poolRefusal, poolOf, jointBuffer, commonBuffer};
 ghost use Rattle.pool.specs.Pool.{poolNumber, poolJoint, poolCommon};
@@ -72,73 +67,6 @@ fn pool_refusal(a: Receiver, b: Receiver, joint: usize, common: usize) -> u32
     0
 }
 
-// Writes `row` after the first `at` bytes, beside itself, or else beside the zeros that `out` holds there.
-fn stack_row(row: &[u8], doubled: bool, out: &mut [u8], at: usize)
-    requires { ⌜ at + length (now row) + length (now row) ≤ length (now out) ⌝ }
-    requires { ⌜ now out ≡ padded (length (now out)) (take at (now out)) ⌝ }
-    ensures { λ _. ⌜ now (out .exit)
-        ≡ padded (length (now (out .entry))) (take at (now (out .entry)) ++ wide doubled (length (now (row .entry))) (now (row .entry))) ⌝ }
-{
-    basics::copy(row, out, at);
-    if doubled {
-        let next = at + row.len();
-        basics::copy(row, out, next);
-    }
-}
-
-// Writes the `count` rows of n bytes so, one after the other, after the first `start` bytes.
-fn stack(n: usize, count: usize, rows: &[u8], doubled: bool, out: &mut [u8], start: usize)
-    requires { ⌜ (length (now rows) ≡ count * n) × (start + count * (n + n) ≤ length (now out)) ⌝ }
-    requires { ⌜ now out ≡ padded (length (now out)) (take start (now out)) ⌝ }
-    ensures { λ _. ⌜ now (out .exit) ≡ padded (length (now (out .entry)))
-        (take start (now (out .entry)) ++ join (wideRows doubled n (rowsOf n count (now (rows .entry))))) ⌝ }
-{
-    let mut to = start;
-    let mut i = 0;
-    while i < count {
-        let from = i * n;
-        stack_row(&rows[from..from + n], doubled, out, to);
-        to += n + n;
-        i += 1;
-    }
-}
-
-// Where `row`, of n and n bytes, leads in its right half, writes that half after the first `count` rows of n bytes; answers how many there
-// are now.
-fn put_half(n: usize, row: &[u8], lead: usize, out: &mut [u8], count: usize) -> usize
-    requires { ⌜ (length (now row) ≡ n + n) × (n ≤ lead → count * n + n ≤ length (now out)) × (count ≤ n) × (n ≤ 16) ⌝ }
-    ensures { λ r. ⌜ r ≡ pick (ltb lead n) count (count + 1) ⌝ }
-    ensures { λ _. ⌜ now (out .exit)
-        ≡ pick (ltb lead n) (now (out .entry)) (paste (now (out .entry)) (count * n) (drop n (now (row .entry))) n) ⌝ }
-{
-    if lead < n {
-        return count;
-    }
-    let from = n;
-    basics::copy(&row[from..from + n], out, count * n);
-    count + 1
-}
-
-// Writes the right halves of those of m's d rows that lead in the right half, then zeros, and answers how many they are. `pivots` holds
-// the rows' leads.
-fn right_halves(n: usize, d: usize, m: &[u8], pivots: &[u8], out: &mut [u8]) -> usize
-    requires { ⌜ (d * (n + n) ≤ length (now m)) × (d ≤ length (now pivots)) × (length (now out) ≡ n * n) × (n ≤ 16) ⌝ }
-    requires { ⌜ take d (now pivots) ≡ leads (n + n) (rowsOf (n + n) d (now m)) ⌝ }
-    requires { ⌜ length (rightHalves n (rowsOf (n + n) d (now m))) ≤ n ⌝ }
-    ensures { λ r. ⌜ r ≡ length (rightHalves n (rowsOf (n + n) d (now (m .entry)))) ⌝ }
-    ensures { λ _. ⌜ now (out .exit) ≡ padded (n * n) (join (rightHalves n (rowsOf (n + n) d (now (m .entry))))) ⌝ }
-{
-    matrix::clear(out);
-    let mut count = 0;
-    let mut i = 0;
-    while i < d {
-        let from = i * (n + n);
-        count = put_half(n, &m[from..from + n + n], pivots[i] as usize, out, count);
-        i += 1;
-    }
-    count
-}
-
 // The rows of both receivers one above the other, those of the first beside themselves and those of the second beside zeros.
 fn stacked(a: Receiver, b: Receiver) -> [u8; 1024]
     requires { ⌜ (wellFormed a ≡ true) × (wellFormed b ≡ true) × (alikeOf a b ≡ true) ⌝ }
@@ -151,7 +79,7 @@ fn stacked(a: Receiver, b: Receiver) -> [u8; 1024]
     let b_entries = b.entries;
     let middle = first * (width + width);
     let mut rows = [0u8; 1024];
-    stack(
+    double_rows::stack(
         width,
         first,
         &a_entries[..first * width],
@@ -159,7 +87,7 @@ fn stacked(a: Receiver, b: Receiver) -> [u8; 1024]
         &mut rows,
         0,
     );
-    stack(
+    double_rows::stack(
         width,
         second,
         &b_entries[..second * width],
@@ -191,7 +119,7 @@ fn common_rows(a: Receiver, b: Receiver, out: &mut [u8]) -> usize
         &mut matrix[..double * double],
         &mut pivots,
     );
-    right_halves(width, d, &matrix, &pivots, out)
+    double_rows::right_halves(width, d, &matrix, &pivots, out)
 }
 
 // The receiver that holds the rows of two receivers with the same settings.

@@ -12,7 +12,7 @@ use Rattle.linear.specs.Span.{rowsOf}
 use Rattle.linear.specs.Eliminate.{join}
 use Rattle.reduction.specs.Padded.{padded}
 use Rattle.spaces.specs.Spaces.{wideRows}
-use Rattle.pool.specs.laws.Fill.{padded-none, padded-taken, padded-size, padded-again, wide-length}
+use Rattle.double_rows.specs.laws.Fill.{padded-none, padded-taken, padded-size, padded-again, wide-length}
 use Rattle.pool.specs.laws.Pooling.{narrow, first-low, second-low, first-fits, second-fits, first-length, stack-joined}
 use Rattle.pool.proofs.stacked.Statement.{statement}
 use Rattle.pool.proofs.stacked.Tie as tie

@@ -27,7 +27,7 @@ use Rattle.spaces.specs.laws.Halves.{stacked-rows}
 use Rattle.receiver.specs.Receiver.{wellFormed, heldRows}
 use Rattle.receiver.specs.declared.Receiver.{Receiver}
 use Rattle.pool.specs.Pool.{alike}
-use Rattle.pool.specs.laws.Fill.{padded-taken, padded-size, wide-count}
+use Rattle.double_rows.specs.laws.Fill.{padded-taken, padded-size, wide-count}
 use Rattle.pool.specs.laws.Pooling.{field-laws, narrow, first-low, second-low, first-held, second-held}
 
 stacked-count : (n : ℕ) (us vs : List (List ℕ)) → length (stacked n us vs) ≡ length us + length vs

@@ -23,7 +23,7 @@ use Rattle.reduction.specs.laws.Steps.{leads}
 use Rattle.receiver.specs.Receiver.{wellFormed, heldRows, holding}
 use Rattle.receiver.specs.declared.Receiver.{Receiver}
 use Rattle.pool.specs.Pool.{alike}
-use Rattle.pool.specs.laws.Fill.{padded-more}
+use Rattle.double_rows.specs.laws.Fill.{padded-more}
 use Rattle.pool.specs.laws.Pooling.{field-laws, square-fits, first-rows, second-rows, first-held, second-held}
 
 -- reduced rows of n entries fit into n·n bytes

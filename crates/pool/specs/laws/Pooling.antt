@@ -32,7 +32,7 @@ use Rattle.receiver.specs.laws.Sound.{Sound, sound, used-fit}
 use Rattle.receiver.specs.declared.Receiver.{Receiver}
 use Rattle.pool.specs.Pool.{alike}
 use Rattle.pool.specs.laws.PoolAccepted.{alike-sizes}
-use Rattle.pool.specs.laws.Fill.{padded-front, paste-whole}
+use Rattle.double_rows.specs.laws.Fill.{padded-front, paste-whole}
 
 module _ (r : Receiver) (size : length (r .entries) ≡ 256) (s : Sound r) where
   used-rows : rowsOf (r .n) (r .dimension) (take (r .dimension * r .n) (r .entries)) ≡ heldRows r

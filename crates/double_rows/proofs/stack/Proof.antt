@@ -1,4 +1,4 @@
--- `pool::stack` meets its contract: the first i rows stand behind the first bytes, and zeros follow.
+-- `double_rows::stack` meets its contract: the first i rows stand behind the first bytes, and zeros follow.
 use mathlib.Core.Path.{_≡_, ap, sym, _∙_, subst}
 use mathlib.Core.List.{List, _++_}
 use Prim.Native.Nat.{ℕ, _+_, _*_, _-_, _≤_}
@@ -11,9 +11,9 @@ use Rattle.linear.specs.Span.{rowsOf}
 use Rattle.linear.specs.Eliminate.{join}
 use Rattle.reduction.specs.Padded.{padded}
 use Rattle.spaces.specs.Spaces.{wide, wideRows}
-use Rattle.pool.specs.laws.Stack.{Stacked, stacked-start, stacked-ready, stacked-more}
-use Rattle.pool.proofs.stack.Statement.{statement}
-use Rattle.pool.proofs.stack.Tie as tie
+use Rattle.double_rows.specs.laws.Stack.{Stacked, stacked-start, stacked-ready, stacked-more}
+use Rattle.double_rows.proofs.stack.Statement.{statement}
+use Rattle.double_rows.proofs.stack.Tie as tie
 
 abbrev Inv-loop : tie.InvT-loop
 Inv-loop n count rows doubled out₀ start to₀ i₀ out to i =

@@ -1,4 +1,4 @@
--- `pool::right_halves` meets its contract: the right halves of the first i rows that lead there stand in the bytes, and zeros follow.
+-- `double_rows::right_halves` meets its contract: the right halves of the first i rows that lead there stand in the bytes, and zeros follow.
 use mathlib.Core.Path.{_≡_, ap, sym, _∙_}
 use mathlib.Core.List.{List}
 use Prim.Native.Nat.{ℕ, _+_, _*_, _-_, _≤_}
@@ -11,10 +11,10 @@ use Rattle.basics.specs.laws.Flat.{row-fits}
 use Rattle.linear.specs.Eliminate.{leadOf, join}
 use Rattle.reduction.specs.Padded.{padded}
 use Rattle.reduction.specs.laws.Parts.{lead-read}
-use Rattle.pool.specs.laws.Fill.{halves, halves-grow}
-use Rattle.pool.specs.laws.Stack.{Halved, halved-start, halved-room, halved-step}
-use Rattle.pool.proofs.right_halves.Statement.{statement}
-use Rattle.pool.proofs.right_halves.Tie as tie
+use Rattle.double_rows.specs.laws.Fill.{halves, halves-grow}
+use Rattle.double_rows.specs.laws.Stack.{Halved, halved-start, halved-room, halved-step}
+use Rattle.double_rows.proofs.right_halves.Statement.{statement}
+use Rattle.double_rows.proofs.right_halves.Tie as tie
 
 abbrev Inv-loop : tie.InvT-loop
 Inv-loop n d m pivots out₀ count₀ i₀ out count i = (i ≤ d) × (length out ≡ n * n) × Halved n m i count out

@@ -1,4 +1,4 @@
--- `pool::stack_row` meets its contract: the row is pasted where the zeros begin, and once more behind itself.
+-- `double_rows::stack_row` meets its contract: the row is pasted where the zeros begin, and once more behind itself.
 use mathlib.Core.Path.{ap, sym, _∙_}
 use mathlib.Core.Bool.{Bool}
 use mathlib.Core.List.{List, _++_}
@@ -8,9 +8,9 @@ use lib.ListN.{length, take}
 use lib.Seq.{paste}
 use Rattle.reduction.specs.Padded.{padded}
 use Rattle.spaces.specs.Spaces.{wide}
-use Rattle.pool.specs.laws.Fill.{row-beside-zero, row-beside-itself}
-use Rattle.pool.proofs.stack_row.Statement.{statement}
-use Rattle.pool.proofs.stack_row.Tie as tie
+use Rattle.double_rows.specs.laws.Fill.{row-beside-zero, row-beside-itself}
+use Rattle.double_rows.proofs.stack_row.Statement.{statement}
+use Rattle.double_rows.proofs.stack_row.Tie as tie
 
 -- what is left in the bytes
 left : (b : tie.Start) → Bool → List ℕ

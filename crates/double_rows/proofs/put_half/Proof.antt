@@ -1,4 +1,4 @@
--- `pool::put_half` meets its contract: a row that leads in its left half is passed over, of another the right half is pasted.
+-- `double_rows::put_half` meets its contract: a row that leads in its left half is passed over, of another the right half is pasted.
 use mathlib.Core.Path.{_≡_, ap, ap₂, sym, _∙_}
 use Prim.Native.Nat.{ℕ, _+_, _*_, _-_, _≤_}
 use native.Mathlib.Omega.{arith}
@@ -7,8 +7,8 @@ use borrow.Author.Tests.{lt-ltb, le-ltb}
 use lib.ListN.{length, take, drop, length-drop}
 use lib.Seq.{paste, take-all}
 use Rattle.basics.specs.Choice.{pick}
-use Rattle.pool.proofs.put_half.Statement.{statement}
-use Rattle.pool.proofs.put_half.Tie as tie
+use Rattle.double_rows.proofs.put_half.Statement.{statement}
+use Rattle.double_rows.proofs.put_half.Tie as tie
 
 returns : tie.Need-returns
 returns c =

@@ -24,7 +24,7 @@ use Rattle.linear.specs.laws.FlatMatrix.{join-length}
 use Rattle.linear.specs.laws.FlatRows.{join-append}
 use Rattle.reduction.specs.Padded.{padded}
 use Rattle.spaces.specs.Spaces.{wide, wideRows, rightHalves}
-use Rattle.pool.specs.laws.Fill.{padded-put, wide-length, wide-more, rows-width, halves, halves-in, halves-out, halves-grow}
+use Rattle.double_rows.specs.laws.Fill.{padded-put, wide-length, wide-more, rows-width, halves, halves-in, halves-out, halves-grow}
 
 pub record Stacked (size n : ℕ) (doubled : Bool) (l m : List ℕ) (i to : ℕ) (out : List ℕ) : Type 0 where
   pub place : to ≡ length l + i * (n + n)
