@@ -1,9 +1,8 @@
 -- Choosing by a test: laws; no part of the meaning.
---   or-left, or-right == a disjunction holds by either side
 --   is-true, holds == a test as an equation, and back
 -- Assumes nothing.
 use mathlib.Core.Path.{_≡_, refl}
-use mathlib.Core.Bool.{Bool, true, false, _||_}
+use mathlib.Core.Bool.{Bool, true, false}
 use Prim.Native.Nat.{ℕ}
 use native.Mathlib.Omega.{arith}
 use lib.Dec.{T}
@@ -15,10 +14,3 @@ is-true false t = absurd t
 pub holds : (b : Bool) → b ≡ true → T b
 holds true e = tt
 holds false e = let z : _≡_ {A = ℕ} 0 1 = cc in absurd (omega arith)
-
-pub or-left : (a b : Bool) → a ≡ true → a || b ≡ true
-or-left a b e = rw e
-
-pub or-right : (a b : Bool) → b ≡ true → a || b ≡ true
-or-right true b e = refl
-or-right false b e = e

@@ -1,4 +1,5 @@
--- `double_rows::right_halves` meets its contract: the right halves of the first i rows that lead there stand in the bytes, and zeros follow.
+-- `double_rows::right_halves` meets its contract: the right halves of the first i rows that lead there stand in the bytes, and zeros
+-- follow.
 use mathlib.Core.Path.{_≡_, ap, sym, _∙_}
 use mathlib.Core.List.{List}
 use Prim.Native.Nat.{ℕ, _+_, _*_, _-_, _≤_}
