@@ -7,7 +7,6 @@ use receive::Received;
 use receiver::Receiver;
 use receiver::TakeAnswer;
 use receiver::Taken;
-use reduce::Space;
 
 #[repr(C)]
 pub struct Image {
@@ -89,20 +88,17 @@ pub extern "C" fn harness_take_lent(image: Image, row: &[u8]) -> Step {
     take_step(taken_lent(receiver_of(image), row))
 }
 
-fn spanned(refusal: u32, space: Space) -> Answer {
-    Answer {
-        refusal,
-        value: 0,
-        dimension: space.dimension,
-    }
-}
-
-// What Receive and Close answer.
+// What Receive and Close answer; done, the index takes the dimension's place.
 fn received(answer: Received) -> Answer {
     match answer {
-        Received::Done(index) => crate::done(crate::index_value(index)),
-        Received::TooFew(space) => spanned(refusal::TOO_FEW, space),
-        Received::TooMany(space) => spanned(refusal::TOO_MANY, space),
+        Received::Done(index, space) => Answer {
+            refusal: 0,
+            value: crate::index_value(index),
+            dimension: 0,
+            vector: space.vector as u64,
+        },
+        Received::TooFew(space) => crate::spanned(refusal::TOO_FEW, space),
+        Received::TooMany(space) => crate::spanned(refusal::TOO_MANY, space),
         Received::Refused(refusal) => crate::refused(refusal),
     }
 }

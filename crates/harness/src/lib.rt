@@ -4,14 +4,16 @@ pub mod image;
 use number::Numbered;
 use numbering::Index;
 use reduce::Reduction;
+use reduce::Space;
 use settings::Counted;
 
-// An answer with document 01's refusal number, index or count, and dimension.
+// An answer with document 01's refusal number, index or count, and dimension, and the identifying vector.
 #[repr(C)]
 pub struct Answer {
     pub refusal: u32,
     pub value: u64,
     pub dimension: u64,
+    pub vector: u64,
 }
 
 fn refused(refusal: u32) -> Answer {
@@ -19,6 +21,7 @@ fn refused(refusal: u32) -> Answer {
         refusal: refusal,
         value: 0,
         dimension: 0,
+        vector: 0,
     }
 }
 
@@ -27,6 +30,17 @@ fn done(value: u64) -> Answer {
         refusal: 0,
         value: value,
         dimension: 0,
+        vector: 0,
+    }
+}
+
+// The refusal, or 0, of an answer that tells of a span.
+fn spanned(refusal: u32, space: Space) -> Answer {
+    Answer {
+        refusal,
+        value: 0,
+        dimension: space.dimension,
+        vector: space.vector as u64,
     }
 }
 
@@ -88,11 +102,7 @@ pub extern "C" fn harness_reduce(
     output: &mut [u8],
 ) -> Answer {
     match reduce::reduce(q, n, row_count, rows, output) {
-        Reduction::Done(space) => Answer {
-            refusal: 0,
-            value: 0,
-            dimension: space.dimension,
-        },
+        Reduction::Done(space) => spanned(0, space),
         Reduction::Refused(refusal) => refused(refusal),
     }
 }

@@ -8,6 +8,7 @@
 --   Mixed q n rs v        == v is a row of rs, or a linear combination of rows that are Mixed: what reaches a receiver by way of neighbours
 --   rowsOf n k m          == the k rows of the matrix m with n columns
 --   HasDimension q n rs d == there is a reduced matrix of d rows with the same span
+--   HasVector q n rs d v  == there is one whose identifying vector is v: column j from the right has a pivot exactly where v has the value 2^(j-1)
 -- Assumes nothing.
 use mathlib.Core.Path.{_≡_}
 use mathlib.Core.List.{List, [], _∷_}
@@ -16,7 +17,7 @@ use Prim.Native.Nat.{ℕ, zero, suc, _<_}
 use lib.ListN.{length, getD, take, drop}
 use Rattle.basics.specs.Table.{tabulate}
 use Rattle.field.specs.Field.{add, multiply}
-use Rattle.matrix.specs.Matrix.{Reduced}
+use Rattle.matrix.specs.Matrix.{Reduced, identifying}
 
 -- every element of a list has the property
 pub data All {A : Type 0} (P : A → Type 0) : List A → Type 0 where
@@ -53,3 +54,6 @@ rowsOf n (suc k) m = take n m ∷ rowsOf n k (drop n m)
 
 unfoldable pub HasDimension : ℕ → ℕ → List (List ℕ) → ℕ → Type 0
 HasDimension q n rows d = (m : List ℕ) × Reduced q n d m × SameSpan q n (rowsOf n d m) rows
+
+unfoldable pub HasVector : ℕ → ℕ → List (List ℕ) → ℕ → ℕ → Type 0
+HasVector q n rows d v = (m : List ℕ) × Reduced q n d m × SameSpan q n (rowsOf n d m) rows × (identifying n d m ≡ v)

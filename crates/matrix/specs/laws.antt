@@ -22,4 +22,5 @@ pub mod Bits
 pub mod Pivots
 pub mod ReducedVector
 pub mod BitSum
+pub mod VectorOnes
 pub mod Walk

@@ -1,13 +1,14 @@
 // The functions for C: the pack's firmware calls Draw, the cabinet's daemon calls Receive.
 ghost use mathlib.Core.Path.{_≡_};
-ghost use mathlib.Core.List.{[], _∷_, _++_};
 ghost use Prim.Native.Nat.{_<_};
 ghost use lib.ListN.{length};
 ghost use Rattle.draw.specs.Draw.{drawRefusal, drawBuffer};
 ghost use Rattle.numbering.specs.Numbering.{indexValue};
 ghost use Rattle.receive.specs.Answer.{receivedNumber, receivedDimension};
-ghost use Rattle.pandrwyg.specs.Exported.{answerSize, bytesOf, leftBytes, exportedRefusal, exportedOf, exportedNumber, exportedBytes};
+ghost use Rattle.pandrwyg.specs.Exported.{answerSize, answerBytes, leftBytes, exportedRefusal};
+ghost use Rattle.pandrwyg.specs.Exported.{exportedOf, exportedNumber, exportedBytes};
 use receive::Received;
+use reduce::Space;
 
 // Draw for C: writes the reduced matrix with the given index of the numbering t. Refuses 1, 2, 3, 10, 4 (the buffer is not exactly k×n
 // bytes), 5, and then leaves the buffer.
@@ -26,13 +27,13 @@ pub extern "C" fn pandrwyg_draw(
     draw::draw(q, n, k, t, index, matrix)
 }
 
-// The bytes of a lent answer: the index, then the dimension.
-const ANSWER_SIZE: usize = 9;
+// The bytes of a lent answer: the index in eight, the dimension in one, the identifying vector in two.
+const ANSWER_SIZE: usize = 11;
 
-// Writes a lent answer: the index, least byte first, then the dimension.
-fn write_answer(answer: &mut [u8], index: u64, dimension: u64)
-    requires { ⌜ (length (now answer) ≡ answerSize) × (dimension < 256) ⌝ }
-    ensures { λ _. ⌜ now (answer .exit) ≡ bytesOf 8 index ++ (dimension ∷ []) ⌝ }
+// Writes a lent answer: the index, the dimension and the identifying vector, each least byte first.
+fn write_answer(answer: &mut [u8], index: u64, space: Space)
+    requires { ⌜ (length (now answer) ≡ answerSize) × (space .dimension < 256) ⌝ }
+    ensures { λ _. ⌜ now (answer .exit) ≡ answerBytes index (space .dimension) (space .vector) ⌝ }
 {
     let mut rest = index;
     let mut i = 0;
@@ -41,7 +42,9 @@ fn write_answer(answer: &mut [u8], index: u64, dimension: u64)
         rest = rest / 256;
         i += 1;
     }
-    answer[8] = dimension as u8;
+    answer[8] = space.dimension as u8;
+    answer[9] = (space.vector % 256) as u8;
+    answer[10] = (space.vector / 256 % 256) as u8;
 }
 
 // The number of an index, whichever numbering it is of.
@@ -55,22 +58,22 @@ fn index_value(index: numbering::Index) -> u64
 }
 
 // Leaves what was received in the lent answer, and gives its refusal number.
-fn leave(received: Received, k: u64, answer: &mut [u8]) -> u32
-    requires { ⌜ (length (now answer) ≡ answerSize) × (receivedDimension k received < 256) ⌝ }
+fn leave(received: Received, answer: &mut [u8]) -> u32
+    requires { ⌜ (length (now answer) ≡ answerSize) × (receivedDimension received < 256) ⌝ }
     ensures { λ r. ⌜ r ≡ receivedNumber received ⌝ }
-    ensures { λ _. ⌜ now (answer .exit) ≡ leftBytes k (now (answer .entry)) received ⌝ }
+    ensures { λ _. ⌜ now (answer .exit) ≡ leftBytes (now (answer .entry)) received ⌝ }
 {
     match received {
-        Received::Done(index) => {
-            write_answer(answer, index_value(index), k);
+        Received::Done(index, space) => {
+            write_answer(answer, index_value(index), space);
             0
         }
         Received::TooFew(space) => {
-            write_answer(answer, 0, space.dimension);
+            write_answer(answer, 0, space);
             refusal::TOO_FEW
         }
         Received::TooMany(space) => {
-            write_answer(answer, 0, space.dimension);
+            write_answer(answer, 0, space);
             refusal::TOO_MANY
         }
         Received::Refused(refusal) => refusal,
@@ -94,9 +97,9 @@ fn exported_refusal(q: u64, n: u64, k: u64, t: u64, row_count: u64, rows: &[u8],
     0
 }
 
-// Receive for C: the answer is a lent buffer of nine bytes, the index, least byte first, then the dimension. Refuses as Receive does, and 4
-// if the answer isn't nine bytes, after the rows' length. 8 and 9 leave index bytes of 0 and the dimension; other refusals leave the
-// answer.
+// Receive for C: the answer is a lent buffer of eleven bytes, the index, the dimension and the identifying vector, each least byte first.
+// Refuses as Receive does, and 4 if the answer isn't eleven bytes, after the rows' length. 8 and 9 leave index bytes of 0, the dimension and
+// the vector; other refusals leave the answer.
 #[no_mangle]
 pub extern "C" fn pandrwyg_receive(
     q: u64,
@@ -117,7 +120,6 @@ pub extern "C" fn pandrwyg_receive(
     }
     leave(
         receive::reduced_answer(q, n, k, t, row_count, rows),
-        k,
         answer,
     )
 }

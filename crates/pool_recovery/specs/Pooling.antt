@@ -3,12 +3,13 @@
 -- k dimensions are reached. In this promise and later ones, a receiver is written since its start only as demand 3's lists allow."
 --   rowsOfBoth q n k cs ds == the rows that the lists of calls cs and ds accept, each from a fresh Start with the settings
 --   pooledAfter q n k cs ds == what pooling the two receivers after these lists hands back, with buffers of the right length
---   Pooling q n k t i cs ds == closing the pooled receiver in the numbering t answers, as demand 3 says it of Close, for the rows of both
+--   Pooling q n k t i cs ds == closing the pooled receiver in the numbering t answers, as demand 3 says it of Close, for the rows of both:
+--                              with their true dimension and identifying vector too
 -- Assumes nothing.
 use mathlib.Core.Path.{_≡_}
 use mathlib.Core.List.{List, _++_}
 use Prim.Native.Nat.{ℕ, _*_}
-use Rattle.linear.specs.Span.{HasDimension}
+use Rattle.linear.specs.Span.{HasVector}
 use Rattle.numbering.specs.Numbering.{indexIn}
 use Rattle.receive.specs.declared.Received.the-variants.{Done}
 use Rattle.receiver.specs.Receiver.{closeOf}
@@ -24,5 +25,6 @@ abbrev pub pooledAfter : ℕ → ℕ → ℕ → List Call → List Call → Poo
 pooledAfter q n k cs ds = poolOf (after (begun q n k) cs) (after (begun q n k) ds) (n * n) (n * n)
 
 pub record Pooling (q n k t i : ℕ) (cs ds : List Call) : Type 0 where
-  pub answers : Answers q n k i (rowsOfBoth q n k cs ds) (told k (closeOf ((pooledAfter q n k cs ds) .receiver) t))
-  pub typed : HasDimension q n (rowsOfBoth q n k cs ds) k → closeOf ((pooledAfter q n k cs ds) .receiver) t ≡ Done (indexIn t i)
+  pub answers : Answers q n k i (rowsOfBoth q n k cs ds) (told (closeOf ((pooledAfter q n k cs ds) .receiver) t))
+  pub typed : (v : ℕ) → HasVector q n (rowsOfBoth q n k cs ds) k v
+      → closeOf ((pooledAfter q n k cs ds) .receiver) t ≡ Done (indexIn t i) (record { dimension = k; vector = v })

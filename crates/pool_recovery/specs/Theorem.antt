@@ -9,7 +9,7 @@ use mathlib.Core.List.{List, _++_}
 use Prim.Native.Nat.{ℕ, _*_, _<_}
 use Rattle.counts.specs.Gaussian.{gaussian}
 use Rattle.settings.specs.Settings.{settingsRefusal}
-use Rattle.linear.specs.Span.{All, Mixed, HasDimension, rowsOf}
+use Rattle.linear.specs.Span.{All, Mixed, HasVector, rowsOf}
 use Rattle.linear.specs.laws.Every.{all-append}
 use Rattle.numbering.specs.Numbering.{isNumbering}
 use Rattle.draw.specs.Draw.{drawBuffer}
@@ -54,8 +54,8 @@ module _ (q n k t : ℕ) (settings : settingsRefusal q n k ≡ 0) (known : isNum
       let R = demand-3 q n k t settings known .recovery i h b l (cs ++ ds) (subst (All _) (sym e) (all-append first second)) in
       record {
         answers =
-            subst₂ (λ rows r. Answers q n k i rows (told k (closeOf r t))) e (sym receiver-both) (R .answers);
-        typed = λ g. ap (λ r. closeOf r t) receiver-both ∙ R .typed (subst (λ x. HasDimension q n x k) (sym e) g);
+            subst₂ (λ rows r. Answers q n k i rows (told (closeOf r t))) e (sym receiver-both) (R .answers);
+        typed = λ v g. ap (λ r. closeOf r t) receiver-both ∙ R .typed v (subst (λ x. HasVector q n x k v) (sym e) g);
       }
 
 pub order-1 : (q n k t : ℕ) → settingsRefusal q n k ≡ 0 → isNumbering t ≡ true → (cs ds : List Call)

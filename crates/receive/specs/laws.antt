@@ -1,4 +1,3 @@
 -- Lemmas; no part of the meaning.
 pub mod Space
 pub mod ReceiveAccepted
-pub mod ReducedAnswer

@@ -4,37 +4,38 @@ ghost use Prim.Native.Nat.{_*_, _≤_};
 ghost use lib.Dec.{T};
 ghost use lib.ListN.{length};
 ghost use Rattle.settings.specs.laws.Accepted.{Accepted};
-ghost use Rattle.matrix.specs.Matrix.{entriesBelow, identifying, Reduced};
+ghost use Rattle.matrix.specs.Matrix.{entriesBelow, Reduced};
 ghost use Rattle.linear.specs.Span.{rowsOf};
 ghost use Rattle.linear.specs.Eliminate.{reducedOf, dimension as dimensionOf};
 ghost use Rattle.numbering.specs.laws.Chosen.{Chosen};
-ghost use Rattle.reduce.specs.Reduce.{mostRows};
+ghost use Rattle.reduce.specs.Reduce.{mostRows, spaceOf};
 ghost use Rattle.receive.specs.Answer.{spaceAnswer, Told};
 ghost use Rattle.receive.specs.Receive.{rowsRefusal, receiveRefusal, reducedAnswer, receiveOf};
 use numbering::Index;
 use reduce::Space;
 
-// What Receive and Close answer: the index, or that the rows span fewer or more than k dimensions, or another refusal.
+// What Receive and Close answer: the index, or that the rows span fewer or more than k dimensions, each with what is told of their span;
+// or another refusal.
 pub enum Received {
-    Done(Index),
+    Done(Index, Space),
     TooFew(Space),
     TooMany(Space),
     Refused(u32),
 }
 
-// The answer for a span of d dimensions whose reduced matrix and identifying vector are given: its index where d is k, else too few or too
-// many.
-pub fn space_answer(q: u64, n: u64, k: u64, t: u64, d: u64, matrix: &[u8], vector: u16) -> Received
-    requires { ⌜ Accepted q n k × Reduced q n d (now matrix) × (vector ≡ identifying n d (now matrix)) ⌝ }
-    ensures { λ r. ⌜ r ≡ spaceAnswer q n k t d (now (matrix .entry)) ⌝ }
+// The answer for a span, whose reduced matrix is given: its index where it has k dimensions, else too few or too many.
+pub fn space_answer(q: u64, n: u64, k: u64, t: u64, space: Space, matrix: &[u8]) -> Received
+    requires { ⌜ Accepted q n k × Reduced q n (space .dimension) (now matrix) × (space ≡ spaceOf n (space .dimension) (now matrix)) ⌝ }
+    ensures { λ r. ⌜ r ≡ spaceAnswer q n k t (space .dimension) (now (matrix .entry)) ⌝ }
 {
-    if d < k {
-        return Received::TooFew(Space { dimension: d });
+    if space.dimension < k {
+        return Received::TooFew(space);
     }
-    if k < d {
-        return Received::TooMany(Space { dimension: d });
+    if k < space.dimension {
+        return Received::TooMany(space);
     }
-    Received::Done(numbering::rank(matrix, q, n as usize, k as usize, t, vector))
+    let index = numbering::rank(matrix, q, n as usize, k as usize, t, space.vector);
+    Received::Done(index, space)
 }
 
 // The first of the refusals 1, 2, 3, 10, 13, 4 (the rows are not row_count×n bytes) that applies; 0 where none does.
@@ -59,25 +60,15 @@ pub fn reduced_answer(q: u64, n: u64, k: u64, t: u64, row_count: u64, rows: &[u8
     requires { ⌜ Chosen q n k t × («row_count» ≤ mostRows) × (length (now rows) ≡ «row_count» * n) × T (entriesBelow q (now rows)) ⌝ }
     ensures { λ r. ⌜ r ≡ reducedAnswer q n k t «row_count» (now (rows .entry)) ⌝ }
 {
-    let width = n as usize;
     let mut matrix = [0u8; 256];
-    let mut pivots = [0u8; 16];
-    let d = reduction::insert_rows(
-        q,
-        width,
-        0,
-        row_count as usize,
-        rows,
-        &mut matrix[..width * width],
-        &mut pivots,
-    );
-    let size = d * width;
-    let vector = matrix::vector_of(&matrix[..size], &pivots, width, d);
-    space_answer(q, n, k, t, d as u64, &matrix[..size], vector)
+    let room = (n * n) as usize;
+    let space = reduce::reduce_rows(q, n, row_count, rows, &mut matrix[..room]);
+    let size = (space.dimension * n) as usize;
+    space_answer(q, n, k, t, space, &matrix[..size])
 }
 
-// Receive: the index of the space that the rows span, in the numbering t. Refuses 1, 2, 3, 10, 13, 4 (not exactly row_count×n bytes), 6;
-// 8 and 9, with the dimension, if the span has fewer or more than k dimensions.
+// Receive: the index of the space that the rows span, in the numbering t, with its dimension and identifying vector. Refuses 1, 2, 3, 10,
+// 13, 4 (not exactly row_count×n bytes), 6; 8 and 9, with the dimension and the vector, if the span has fewer or more than k dimensions.
 pub fn receive(q: u64, n: u64, k: u64, t: u64, row_count: u64, rows: &[u8]) -> Received
     ensures { λ r. ⌜ r ≡ receiveOf q n k t «row_count» (now (rows .entry)) ⌝ }
     ensures { λ r. ⌜ Told q n k t (dimensionOf q n (rowsOf n «row_count» (now (rows .entry))))

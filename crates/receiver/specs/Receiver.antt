@@ -12,7 +12,7 @@
 --   takeOf r row     == what Take hands back: the receiver with the row taken in, and "raised" if the dimension grew, "held" if not; "A
 --                       refused row gives only the number, and the receiver is handed back unchanged."
 --   lentReceiver, lentAnswer == the same for Take on a lent receiver: what it leaves, and what it answers
---   closeOf r t      == "Close a receiver: 14, 10, 8, 9, the last two with the dimension."
+--   closeOf r t      == "Close a receiver: 14, 10, 8, 9, the last two with the dimension"; order 2: and with the identifying vector
 --   takeNumber, takeRaised == document 01's refusal number of each case of Take's answer, and the test that the case is "raised"
 -- Assumes nothing.
 use mathlib.Core.Bool.{Bool, true, false, _&&_}

@@ -13,6 +13,7 @@ ghost use Rattle.receiver.specs.Receiver.{lentReceiver, lentAnswer, clos
 ghost use Rattle.receiver.specs.laws.WellFormed.{made};
 ghost use Rattle.receiver.specs.laws.TakeAccepted.{TakeAccepted};
 use receive::Received;
+use reduce::Space;
 
 // The first n×n entries hold the reduced rows, then zeros; so are all others.
 pub struct Receiver {
@@ -241,8 +242,8 @@ impl Receiver {
         self.taken_in(row, tested.vector)
     }
 
-    // Close: the index, in the numbering t, of the space of all rows taken. Refuses 14, 10, 8, 9, the last two with the dimension. The
-    // receiver may take more rows.
+    // Close: the index, in the numbering t, of the space of all rows taken, with its dimension and identifying vector. Refuses 14, 10, 8,
+    // 9, the last two with the dimension and the vector. The receiver may take more rows.
     pub fn close(self, t: u64) -> Received
         ensures { λ r. ⌜ r ≡ closeOf self t ⌝ }
         ensures { λ r. ⌜ Told (self .q) (self .n) (self .k) t (self .dimension) (used self) (closeRefusal self t) r ⌝ }
@@ -253,15 +254,11 @@ impl Receiver {
         }
         let entries = self.entries;
         let size = (self.dimension * self.n) as usize;
-        receive::space_answer(
-            self.q,
-            self.n,
-            self.k,
-            t,
-            self.dimension,
-            &entries[..size],
-            tested.vector,
-        )
+        let space = Space {
+            dimension: self.dimension,
+            vector: tested.vector,
+        };
+        receive::space_answer(self.q, self.n, self.k, t, space, &entries[..size])
     }
 }
 

@@ -8,12 +8,14 @@
 --   Listing q n k t      == drawing 0 to N-1. Document 01: "A listing by Draw is told by separate draws: every index below N gives a
 --                           reduced k×n matrix, unrefused; each such matrix comes from exactly one of these indexes; and of any two of
 --                           these indexes the smaller gives the matrix that comes first in the numbering's order."
---   Answer               == what an answer tells in document 01's numbers: the refusal number, the index and the dimension
---   told k a             == what an answer of Receive or Close tells
+--   Answer               == what an answer tells in document 01's numbers: the refusal number, the index and the dimension; and order 2's
+--                           identifying vector
+--   told a               == what an answer of Receive or Close tells
 --   littleEndian bytes   == the number that bytes tell, the first byte least: the sum of each times a power of 256
---   read number bytes    == what C reads: the returned number, of the nine bytes the first eight as a number, and the ninth
---   Answers q n k i rows answer == the rows have a dimension, and the answer is the index i, unrefused, exactly when it is k; 8 with the
---                           dimension if that is fewer; and it is never more
+--   read number bytes    == what C reads: the returned number, of the bytes the first eight as a number, the ninth, and the rest as a number
+--   Answers q n k i rows answer == the rows have a dimension and an identifying vector. The answer is the index i, unrefused, exactly when
+--                           the dimension is k, and 8 if it is fewer; it is never more. The dimension and the vector that are told are the
+--                           true ones
 --   Recovery q n k t i cs == closing after the list cs answers so for the rows that were accepted
 --   Reception q n k t i rows == Receive of the rows answers so, by value and for C
 --   Demand q n k t       == all of it; and of every list of calls, mixtures or not: "No call of the list is refused 14. A row is accepted
@@ -21,22 +23,22 @@
 -- Assumes nothing.
 use mathlib.Core.Path.{_≡_}
 use mathlib.Core.Logic.{_↔_}
-use mathlib.Core.List.{List, [], _∷_, _++_}
+use mathlib.Core.List.{List, [], _∷_}
 use Prim.Native.Nat.{ℕ, _+_, _*_, _<_, _≤_}
-use lib.ListN.{length, getD, take}
+use lib.ListN.{length, getD, take, drop}
 use Rattle.counts.specs.Gaussian.{gaussian}
 use Rattle.matrix.specs.Matrix.{Reduced}
-use Rattle.linear.specs.Span.{All, Mixed, rowsOf, HasDimension}
+use Rattle.linear.specs.Span.{All, Mixed, rowsOf, HasDimension, HasVector}
 use Rattle.linear.specs.Eliminate.{join}
 use Rattle.numbering.specs.Numbering.{before, indexIn}
 use Rattle.draw.specs.Draw.{drawRefusal, drawBuffer}
 use Rattle.reduce.specs.Reduce.{mostRows}
-use Rattle.receive.specs.Answer.{receivedNumber, receivedIndex, receivedDimension}
+use Rattle.receive.specs.Answer.{receivedNumber, receivedIndex, receivedDimension, receivedVector}
 use Rattle.receive.specs.Receive.{receiveOf}
 use Rattle.receive.specs.declared.Received.{Received}
 use Rattle.receive.specs.declared.Received.the-variants.{Done}
 use Rattle.receiver.specs.Receiver.{closeOf}
-use Rattle.pandrwyg.specs.Exported.{answerSize, bytesOf, exportedNumber, exportedBytes}
+use Rattle.pandrwyg.specs.Exported.{answerSize, answerBytes, exportedNumber, exportedBytes}
 use Rattle.recovery.specs.Calls.{Call, begun, after, accepted, offered, fitting, Unforged}
 
 -- a buffer of the right length, whatever it holds
@@ -56,37 +58,43 @@ pub record Answer : Type 0 where
   pub number : ℕ
   pub index : ℕ
   pub dimension : ℕ
+  pub vector : ℕ
 
-abbrev pub told : ℕ → Received → Answer
-told k a = record { number = receivedNumber a; index = receivedIndex a; dimension = receivedDimension k a }
+abbrev pub told : Received → Answer
+told a =
+    record { number = receivedNumber a; index = receivedIndex a; dimension = receivedDimension a; vector = receivedVector a }
 
 unfoldable pub littleEndian : List ℕ → ℕ
 littleEndian [] = 0
 littleEndian (byte ∷ bytes) = byte + 256 * littleEndian bytes
 
 abbrev pub read : ℕ → List ℕ → Answer
-read number bytes = record { number = number; index = littleEndian (take 8 bytes); dimension = getD bytes 8 0 }
+read number bytes =
+    record { number = number; index = littleEndian (take 8 bytes); dimension = getD bytes 8 0; vector = littleEndian (drop 9 bytes) }
 
 pub record Answers (q n k i : ℕ) (rows : List (List ℕ)) (answer : Answer) : Type 0 where
-  pub some : (d : ℕ) × HasDimension q n rows d
-  pub whole : (answer ≡ record { number = 0; index = i; dimension = k }) ↔ HasDimension q n rows k
-  pub fewer : (d : ℕ) → HasDimension q n rows d → d < k → answer ≡ record { number = 8; index = 0; dimension = d }
+  pub some : (d v : ℕ) × HasVector q n rows d v
+  pub whole : ((answer .number ≡ 0) × (answer .index ≡ i)) ↔ HasDimension q n rows k
+  pub fewer : (d : ℕ) → HasDimension q n rows d → d < k → (answer .number ≡ 8) × (answer .index ≡ 0)
   pub never-more : (d : ℕ) → HasDimension q n rows d → d ≤ k
+  pub space : (d v : ℕ) → HasVector q n rows d v → (answer .dimension ≡ d) × (answer .vector ≡ v)
 
 pub record Recovery (q n k t i : ℕ) (cs : List Call) : Type 0 where
-  pub answers : Answers q n k i (accepted (begun q n k) cs) (told k (closeOf (after (begun q n k) cs) t))
-  pub typed : HasDimension q n (accepted (begun q n k) cs) k → closeOf (after (begun q n k) cs) t ≡ Done (indexIn t i)
+  pub answers : Answers q n k i (accepted (begun q n k) cs) (told (closeOf (after (begun q n k) cs) t))
+  pub typed : (v : ℕ) → HasVector q n (accepted (begun q n k) cs) k v
+      → closeOf (after (begun q n k) cs) t ≡ Done (indexIn t i) (record { dimension = k; vector = v })
 
 pub record Reception (q n k t i : ℕ) (rows : List (List ℕ)) : Type 0 where
-  pub answers : Answers q n k i rows (told k (receiveOf q n k t (length rows) (join rows)))
-  pub typed : HasDimension q n rows k → receiveOf q n k t (length rows) (join rows) ≡ Done (indexIn t i)
+  pub answers : Answers q n k i rows (told (receiveOf q n k t (length rows) (join rows)))
+  pub typed : (v : ℕ) → HasVector q n rows k v
+      → receiveOf q n k t (length rows) (join rows) ≡ Done (indexIn t i) (record { dimension = k; vector = v })
   pub exported : (b : List ℕ) → length b ≡ answerSize
       → Answers q n k i rows
       (read (exportedNumber q n k t (length rows) (join rows) answerSize) (exportedBytes q n k t (length rows) (join rows) b))
-  pub whole-bytes : (b : List ℕ) → length b ≡ answerSize → HasDimension q n rows k
-      → exportedBytes q n k t (length rows) (join rows) b ≡ bytesOf 8 i ++ (k ∷ [])
-  pub fewer-bytes : (b : List ℕ) → length b ≡ answerSize → (d : ℕ) → HasDimension q n rows d → d < k
-      → exportedBytes q n k t (length rows) (join rows) b ≡ bytesOf 8 0 ++ (d ∷ [])
+  pub whole-bytes : (b : List ℕ) → length b ≡ answerSize → (v : ℕ) → HasVector q n rows k v
+      → exportedBytes q n k t (length rows) (join rows) b ≡ answerBytes i k v
+  pub fewer-bytes : (b : List ℕ) → length b ≡ answerSize → (d v : ℕ) → HasVector q n rows d v → d < k
+      → exportedBytes q n k t (length rows) (join rows) b ≡ answerBytes 0 d v
 
 pub record Demand (q n k t : ℕ) : Type 0 where
   pub listing : Listing q n k t

@@ -2,47 +2,43 @@
 -- fields alone, and uses each of them; a reader may believe either.
 --   demand-3-flat == "Suppose settings are accepted and have N spaces. Then, in either numbering, .."
 -- Assumes nothing.
-use mathlib.Core.Path.{_≡_, ap, ap₂, _∙_}
+use mathlib.Core.Path.{_≡_}
 use mathlib.Core.Bool.{true}
-use mathlib.Core.List.{List, [], _∷_, _++_}
+use mathlib.Core.List.{List}
+use mathlib.Core.Logic.{_↔_}
 use Prim.Native.Nat.{ℕ, _*_, _<_, _≤_}
-use lib.ListN.{length, getD, take}
+use lib.ListN.{length, getD, take, drop}
 use Rattle.counts.specs.Gaussian.{gaussian}
 use Rattle.settings.specs.Settings.{settingsRefusal}
 use Rattle.matrix.specs.Matrix.{Reduced}
-use Rattle.linear.specs.Span.{All, Mixed, rowsOf, HasDimension}
+use Rattle.linear.specs.Span.{All, Mixed, rowsOf, HasDimension, HasVector}
 use Rattle.linear.specs.Eliminate.{join}
 use Rattle.numbering.specs.Numbering.{isNumbering, before, indexIn}
 use Rattle.draw.specs.Draw.{drawRefusal, drawBuffer}
-use Rattle.receive.specs.Answer.{receivedNumber, receivedIndex, receivedDimension}
+use Rattle.receive.specs.Answer.{receivedNumber, receivedIndex, receivedDimension, receivedVector}
 use Rattle.receive.specs.Receive.{receiveOf}
 use Rattle.receive.specs.declared.Received.{Received}
 use Rattle.receive.specs.declared.Received.the-variants.{Done}
 use Rattle.receiver.specs.Receiver.{closeOf}
-use Rattle.pandrwyg.specs.Exported.{bytesOf, exportedNumber, exportedBytes}
+use Rattle.pandrwyg.specs.Exported.{answerSize, answerBytes, exportedNumber, exportedBytes}
 use Rattle.recovery.specs.Calls.{Call, begun, after, accepted, offered, fitting, Unforged}
-use Rattle.recovery.specs.Demand.{Answer, littleEndian}
+use Rattle.recovery.specs.Demand.{littleEndian}
 use Rattle.recovery.specs.Theorem.{demand-3}
 
--- the refusal number, the index and the dimension that an answer of Receive or Close tells
-abbrev pub tells : ℕ → Received → ℕ → ℕ → ℕ → Type 0
-tells k a number index dimension = (receivedNumber a ≡ number) × (receivedIndex a ≡ index) × (receivedDimension k a ≡ dimension)
+-- the refusal number and the index that an answer of Receive or Close tells
+abbrev pub tells : Received → ℕ → ℕ → Type 0
+tells a number index = (receivedNumber a ≡ number) × (receivedIndex a ≡ index)
 
--- the same of the number that C gets back and of the nine bytes
-abbrev pub reads : ℕ → List ℕ → ℕ → ℕ → ℕ → Type 0
-reads returned bytes number index dimension =
-    (returned ≡ number) × (littleEndian (take 8 bytes) ≡ index) × (getD bytes 8 0 ≡ dimension)
+-- the dimension and the identifying vector that it tells
+abbrev pub tellsSpace : Received → ℕ → ℕ → Type 0
+tellsSpace a dimension vector = (receivedDimension a ≡ dimension) × (receivedVector a ≡ vector)
 
--- an answer by its three numbers
-parts : {a : Answer} {number index dimension : ℕ} → a ≡ record { number = number; index = index; dimension = dimension }
-    → (a .number ≡ number) × (a .index ≡ index) × (a .dimension ≡ dimension)
-parts e = (ap (λ x. x .number) e, ap (λ x. x .index) e, ap (λ x. x .dimension) e)
+-- the same of the number that C gets back and of the bytes
+abbrev pub reads : ℕ → List ℕ → ℕ → ℕ → Type 0
+reads returned bytes number index = (returned ≡ number) × (littleEndian (take 8 bytes) ≡ index)
 
-whole : {a : Answer} {number index dimension : ℕ} → (a .number ≡ number) × (a .index ≡ index) × (a .dimension ≡ dimension)
-    → a ≡ record { number = number; index = index; dimension = dimension }
-whole {a} {number} {index} {dimension} e =
-    ap₂ (λ x y. record { number = x; index = y; dimension = a .dimension }) (e .0) (e .1)
-    ∙ ap (λ x. record { number = number; index = index; dimension = x }) (e .2)
+abbrev pub readsSpace : List ℕ → ℕ → ℕ → Type 0
+readsSpace bytes dimension vector = (getD bytes 8 0 ≡ dimension) × (littleEndian (drop 9 bytes) ≡ vector)
 
 pub demand-3-flat :
     -- "Suppose settings are accepted and have N spaces. Then, in either numbering,
@@ -66,34 +62,36 @@ pub demand-3-flat :
     -- and let rows be mixed from its rows over the field, in whatever way and sequence. Then for every list of Take and Close calls on one
     -- receiver, refused ones included, from a fresh Start with these settings, in which every row accepted is such a mixture:
     → ((cs : List Call) → All (Mixed q n (rowsOf n k (drawBuffer q n k t i b))) (accepted (begun q n k) cs)
-    -- (the accepted rows have a dimension, at most k;)
-    → ((d : ℕ) × HasDimension q n (accepted (begun q n k) cs) d)
+    -- (the accepted rows have a dimension, at most k, and an identifying vector;)
+    → ((d v : ℕ) × HasVector q n (accepted (begun q n k) cs) d v)
     × ((d : ℕ) → HasDimension q n (accepted (begun q n k) cs) d → d ≤ k)
     -- closing after it, in the draw's numbering, gives back the drawn index, unrefused, exactly when the accepted rows span k dimensions;
-    × (HasDimension q n (accepted (begun q n k) cs) k
-    → tells k (closeOf (after (begun q n k) cs) t) 0 i k × (closeOf (after (begun q n k) cs) t ≡ Done (indexIn t i)))
-    × (tells k (closeOf (after (begun q n k) cs) t) 0 i k → HasDimension q n (accepted (begun q n k) cs) k)
-    -- if fewer, it refuses with 8 and their true dimension.
-    × ((d : ℕ) → HasDimension q n (accepted (begun q n k) cs) d → d < k → tells k (closeOf (after (begun q n k) cs) t) 8 0 d))
+    × (tells (closeOf (after (begun q n k) cs) t) 0 i ↔ HasDimension q n (accepted (begun q n k) cs) k)
+    × ((v : ℕ) → HasVector q n (accepted (begun q n k) cs) k v
+    → closeOf (after (begun q n k) cs) t ≡ Done (indexIn t i) (record { dimension = k; vector = v }))
+    -- if fewer, it refuses with 8
+    × ((d : ℕ) → HasDimension q n (accepted (begun q n k) cs) d → d < k → tells (closeOf (after (begun q n k) cs) t) 8 0)
+    -- and their true dimension. (It tells the true dimension either way, and with it the true identifying vector.)
+    × ((d v : ℕ) → HasVector q n (accepted (begun q n k) cs) d v → tellsSpace (closeOf (after (begun q n k) cs) t) d v))
     -- Receive, given none to 64 such rows in one call, in that numbering,
     × ((rows : List (List ℕ)) → length rows ≤ 64 → All (Mixed q n (rowsOf n k (drawBuffer q n k t i b))) rows
     -- answers alike for them."
-    → ((d : ℕ) × HasDimension q n rows d)
+    → ((d v : ℕ) × HasVector q n rows d v)
     × ((d : ℕ) → HasDimension q n rows d → d ≤ k)
-    × (HasDimension q n rows k
-    → tells k (receiveOf q n k t (length rows) (join rows)) 0 i k × (receiveOf q n k t (length rows) (join rows) ≡ Done (indexIn t i)))
-    × (tells k (receiveOf q n k t (length rows) (join rows)) 0 i k → HasDimension q n rows k)
-    × ((d : ℕ) → HasDimension q n rows d → d < k → tells k (receiveOf q n k t (length rows) (join rows)) 8 0 d)
-    -- (And so do the number that its C form returns and the nine bytes that it leaves.)
-    × ((a : List ℕ) → length a ≡ 9
-    → (HasDimension q n rows k
-    → reads (exportedNumber q n k t (length rows) (join rows) 9) (exportedBytes q n k t (length rows) (join rows) a) 0 i k
-    × (exportedBytes q n k t (length rows) (join rows) a ≡ bytesOf 8 i ++ (k ∷ [])))
-    × (reads (exportedNumber q n k t (length rows) (join rows) 9) (exportedBytes q n k t (length rows) (join rows) a) 0 i k
-    → HasDimension q n rows k)
+    × (tells (receiveOf q n k t (length rows) (join rows)) 0 i ↔ HasDimension q n rows k)
+    × ((v : ℕ) → HasVector q n rows k v
+    → receiveOf q n k t (length rows) (join rows) ≡ Done (indexIn t i) (record { dimension = k; vector = v }))
+    × ((d : ℕ) → HasDimension q n rows d → d < k → tells (receiveOf q n k t (length rows) (join rows)) 8 0)
+    × ((d v : ℕ) → HasVector q n rows d v → tellsSpace (receiveOf q n k t (length rows) (join rows)) d v)
+    -- (And so do the number that its C form returns and the bytes that it leaves.)
+    × ((a : List ℕ) → length a ≡ answerSize
+    → (reads (exportedNumber q n k t (length rows) (join rows) answerSize) (exportedBytes q n k t (length rows) (join rows) a) 0 i
+    ↔ HasDimension q n rows k)
+    × ((v : ℕ) → HasVector q n rows k v → exportedBytes q n k t (length rows) (join rows) a ≡ answerBytes i k v)
     × ((d : ℕ) → HasDimension q n rows d → d < k
-    → reads (exportedNumber q n k t (length rows) (join rows) 9) (exportedBytes q n k t (length rows) (join rows) a) 8 0 d
-    × (exportedBytes q n k t (length rows) (join rows) a ≡ bytesOf 8 0 ++ (d ∷ []))))))
+    → reads (exportedNumber q n k t (length rows) (join rows) answerSize) (exportedBytes q n k t (length rows) (join rows) a) 8 0)
+    × ((d v : ℕ) → HasVector q n rows d v → d < k → exportedBytes q n k t (length rows) (join rows) a ≡ answerBytes 0 d v)
+    × ((d v : ℕ) → HasVector q n rows d v → readsSpace (exportedBytes q n k t (length rows) (join rows) a) d v))))
 demand-3-flat q n k t settings known =
     let D = demand-3 q n k t settings known in
     let L = D .listing in (
@@ -104,24 +102,22 @@ demand-3-flat q n k t settings known =
       λ cs. (D .unforged cs, D .fits cs),
       λ i h b l. (
         λ cs mixed.
-            let R = D .recovery i h b l cs mixed in (
-              R .answers .some,
-              R .answers .never-more,
-              λ g. (parts (R .answers .whole .1 g), R .typed g),
-              λ e. R .answers .whole .0 (whole e),
-              λ d g s. parts (R .answers .fewer d g s),
-            ),
+            let R = D .recovery i h b l cs mixed in
+            (R .answers .some, R .answers .never-more, R .answers .whole, R .typed, R .answers .fewer, R .answers .space),
         λ rows few mixed.
             let R = D .reception i h b l rows few mixed in (
               R .answers .some,
               R .answers .never-more,
-              λ g. (parts (R .answers .whole .1 g), R .typed g),
-              λ e. R .answers .whole .0 (whole e),
-              λ d g s. parts (R .answers .fewer d g s),
-              λ a nine. (
-                λ g. (parts (R .exported a nine .whole .1 g), R .whole-bytes a nine g),
-                λ e. R .exported a nine .whole .0 (whole e),
-                λ d g s. (parts (R .exported a nine .fewer d g s), R .fewer-bytes a nine d g s),
+              R .answers .whole,
+              R .typed,
+              R .answers .fewer,
+              R .answers .space,
+              λ a sized. (
+                R .exported a sized .whole,
+                R .whole-bytes a sized,
+                R .exported a sized .fewer,
+                R .fewer-bytes a sized,
+                R .exported a sized .space,
               ),
             ),
       ),

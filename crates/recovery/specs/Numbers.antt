@@ -115,7 +115,7 @@ pub demand-2-flat :
     × ((rows : List (List ℕ)) → All (Row q n) rows → length rows ≤ 64
     → (d : ℕ) (m : List ℕ) → Reduced q n d m → SameSpan q n (rowsOf n d m) rows
     → (receiveOf q n k t (length rows) (join rows) ≡ spaceAnswer q n k t d m)
-    × (exportedOf q n k t (length rows) (join rows) 9 ≡ spaceAnswer q n k t d m))
+    × (exportedOf q n k t (length rows) (join rows) answerSize ≡ spaceAnswer q n k t d m))
     × ((cs : List Call) (d : ℕ) (m : List ℕ) → Reduced q n d m → SameSpan q n (rowsOf n d m) (accepted (begun q n k) cs)
     → closeOf (after (begun q n k) cs) t ≡ spaceAnswer q n k t d m)
 demand-2-flat q n k t settings known =

@@ -1,10 +1,13 @@
 -- What Reduce answers for every input, and what it leaves in the lent output. Document 01: "Reduce, from q, n and r rows to the reduced
 -- matrix of their span: 1; 2 for n only; 13 if r exceeds 64; 4 if the input isn't r×n bytes or the output isn't n×n; 6. The output holds
--- the reduced rows, then zeros; the answer is the dimension."
+-- the reduced rows, then zeros; the answer is the dimension." Order 2: "Reduce answers it", the identifying vector, "as a 16-bit number
+-- beside the dimension; column j from the right has the value 2^(j-1)".
 --   mostRows      == 64
+--   spaceOf n d m == what is told of the space with the reduced matrix m of d rows: d, and the identifying vector of m
 --   reduceRefusal == the refusals in their order; 0 where none applies
 --   reduceOf      == what Reduce answers; reduceBuffer == the output afterwards
---   reductionNumber, reductionDimension == document 01's refusal number and dimension of each case of the answer
+--   reductionNumber, reductionDimension, reductionVector == document 01's refusal number and dimension, and order 2's vector, of each case
+--                    of the answer
 -- Assumes nothing.
 use mathlib.Core.List.{List, [], _∷_}
 use Prim.Native.Nat.{ℕ, _*_}
@@ -14,15 +17,19 @@ use Rattle.refusal.specs.Refusal.{fieldSizeRefusal, rangeRefusal, lengthRefusal
 use Rattle.refusal.specs.Refusal.{refuseUnless, first, unlessRefused}
 use Rattle.field.specs.Field.{isFieldSize}
 use Rattle.settings.specs.Settings.{rowLengthOk}
-use Rattle.matrix.specs.Matrix.{entriesBelow}
+use Rattle.matrix.specs.Matrix.{entriesBelow, identifying}
 use Rattle.linear.specs.Span.{rowsOf}
 use Rattle.linear.specs.Eliminate.{reducedOf, dimension}
 use Rattle.reduction.specs.Padded.{padded}
+use Rattle.reduce.specs.declared.Space.{Space}
 use Rattle.reduce.specs.declared.Reduction.{Reduction}
 use Rattle.reduce.specs.declared.Reduction.the-variants.{Done, Refused}
 
 abbrev pub mostRows : ℕ
 mostRows = 64
+
+abbrev pub spaceOf : ℕ → ℕ → List ℕ → Space
+spaceOf n d m = record { dimension = d; vector = identifying n d m }
 
 unfoldable pub reduceRefusal : ℕ → ℕ → ℕ → List ℕ → ℕ → ℕ
 reduceRefusal q n r input size =
@@ -37,7 +44,7 @@ reduceRefusal q n r input size =
 
 unfoldable pub reduceOf : ℕ → ℕ → ℕ → List ℕ → ℕ → Reduction
 reduceOf q n r input size =
-    unlessRefused (reduceRefusal q n r input size) (Done (record { dimension = dimension q n (rowsOf n r input) }))
+    unlessRefused (reduceRefusal q n r input size) (Done (spaceOf n (dimension q n (rowsOf n r input)) (reducedOf q n (rowsOf n r input))))
     (Refused (reduceRefusal q n r input size))
 
 unfoldable pub reduceBuffer : ℕ → ℕ → ℕ → List ℕ → List ℕ → List ℕ
@@ -51,3 +58,7 @@ reductionNumber (Refused r) = r
 abbrev pub reductionDimension : Reduction → ℕ
 reductionDimension (Done s) = s .dimension
 reductionDimension (Refused r) = 0
+
+abbrev pub reductionVector : Reduction → ℕ
+reductionVector (Done s) = s .vector
+reductionVector (Refused r) = 0

@@ -1,2 +1,3 @@
 -- Lemmas; no part of the meaning.
 pub mod ReduceAccepted
+pub mod ReduceRows

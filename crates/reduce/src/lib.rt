@@ -1,17 +1,24 @@
 // Reduce: the reduced matrix of the span of some rows.
 ghost use mathlib.Core.Path.{_≡_};
-ghost use lib.ListN.{length};
+ghost use Prim.Native.Nat.{_*_, _≤_};
+ghost use lib.Dec.{T};
+ghost use lib.ListN.{length, replicate};
 ghost use Rattle.refusal.specs.Refusal.{unlessRefused};
+ghost use Rattle.field.specs.Field.{isFieldSize};
+ghost use Rattle.matrix.specs.Matrix.{entriesBelow, identifying};
 ghost use Rattle.linear.specs.Span.{rowsOf};
-ghost use Rattle.linear.specs.Eliminate.{dimension as dimensionOf};
-ghost use Rattle.reduce.specs.Reduce.{reduceRefusal, reduceOf, reduceBuffer, reductionNumber, reductionDimension};
+ghost use Rattle.linear.specs.Eliminate.{reducedOf, dimension as dimensionOf};
+ghost use Rattle.reduction.specs.Padded.{padded};
+ghost use Rattle.reduce.specs.Reduce.{spaceOf, reduceRefusal, reduceOf, reduceBuffer};
+ghost use Rattle.reduce.specs.Reduce.{reductionNumber, reductionDimension, reductionVector};
 
 // The most rows that a call takes in.
 pub const MOST_ROWS: u64 = 64;
 
-// What is told of the span of some rows.
+// What is told of the span of some rows: its dimension, and the identifying vector of its reduced matrix.
 pub struct Space {
     pub dimension: u64,
+    pub vector: u16,
 }
 
 // What Reduce answers.
@@ -45,22 +52,16 @@ fn reduce_refusal(q: u64, n: u64, row_count: u64, rows: &[u8], size: usize) -> u
     0
 }
 
-// Reduce: writes the reduced matrix of the rows' span to `output`, then zeros, and answers the dimension.
-// Refuses 1, 2 (for n alone), 13, 4 (the rows are not row_count×n bytes, or the output not n×n), 6.
-pub fn reduce(q: u64, n: u64, row_count: u64, rows: &[u8], output: &mut [u8]) -> Reduction
-    ensures { λ r. ⌜ r ≡ reduceOf q n «row_count» (now (rows .entry)) (length (now (output .entry))) ⌝ }
-    ensures { λ _. ⌜ now (output .exit) ≡ reduceBuffer q n «row_count» (now (rows .entry)) (now (output .entry)) ⌝ }
-    ensures { λ r. ⌜ (reductionNumber r ≡ reduceRefusal q n «row_count» (now (rows .entry)) (length (now (output .entry))))
-        × (reductionDimension r ≡ unlessRefused (reduceRefusal q n «row_count» (now (rows .entry)) (length (now (output .entry))))
-        (dimensionOf q n (rowsOf n «row_count» (now (rows .entry)))) 0) ⌝ }
+// Writes the reduced matrix of the rows' span to `output`, which holds n×n zeros, and tells of the span.
+pub fn reduce_rows(q: u64, n: u64, row_count: u64, rows: &[u8], output: &mut [u8]) -> Space
+    requires { ⌜ T (isFieldSize q) × (n ≤ 16) × (length (now rows) ≡ «row_count» * n) × T (entriesBelow q (now rows))
+        × (now output ≡ replicate (n * n) 0) ⌝ }
+    ensures { λ r. ⌜ r ≡ spaceOf n (dimensionOf q n (rowsOf n «row_count» (now (rows .entry))))
+        (reducedOf q n (rowsOf n «row_count» (now (rows .entry)))) ⌝ }
+    ensures { λ _. ⌜ now (output .exit) ≡ padded (n * n) (reducedOf q n (rowsOf n «row_count» (now (rows .entry)))) ⌝ }
 {
-    let refusal = reduce_refusal(q, n, row_count, rows, output.len());
-    if refusal != 0 {
-        return Reduction::Refused(refusal);
-    }
     let width = n as usize;
     let mut pivots = [0u8; 16];
-    matrix::clear(output);
     let dimension = reduction::insert_rows(
         q,
         width,
@@ -70,7 +71,30 @@ pub fn reduce(q: u64, n: u64, row_count: u64, rows: &[u8], output: &mut [u8]) ->
         output,
         &mut pivots,
     );
-    Reduction::Done(Space {
+    let size = dimension * width;
+    let vector = matrix::vector_of(&output[..size], &pivots, width, dimension);
+    Space {
         dimension: dimension as u64,
-    })
+        vector,
+    }
+}
+
+// Reduce: writes the reduced matrix of the rows' span to `output`, then zeros, and answers the dimension and the identifying vector.
+// Refuses 1, 2 (for n alone), 13, 4 (the rows are not row_count×n bytes, or the output not n×n), 6.
+pub fn reduce(q: u64, n: u64, row_count: u64, rows: &[u8], output: &mut [u8]) -> Reduction
+    ensures { λ r. ⌜ r ≡ reduceOf q n «row_count» (now (rows .entry)) (length (now (output .entry))) ⌝ }
+    ensures { λ _. ⌜ now (output .exit) ≡ reduceBuffer q n «row_count» (now (rows .entry)) (now (output .entry)) ⌝ }
+    ensures { λ r. ⌜ (reductionNumber r ≡ reduceRefusal q n «row_count» (now (rows .entry)) (length (now (output .entry))))
+        × (reductionDimension r ≡ unlessRefused (reduceRefusal q n «row_count» (now (rows .entry)) (length (now (output .entry))))
+        (dimensionOf q n (rowsOf n «row_count» (now (rows .entry)))) 0)
+        × (reductionVector r ≡ unlessRefused (reduceRefusal q n «row_count» (now (rows .entry)) (length (now (output .entry))))
+        (identifying n (dimensionOf q n (rowsOf n «row_count» (now (rows .entry))))
+        (reducedOf q n (rowsOf n «row_count» (now (rows .entry))))) 0) ⌝ }
+{
+    let refusal = reduce_refusal(q, n, row_count, rows, output.len());
+    if refusal != 0 {
+        return Reduction::Refused(refusal);
+    }
+    matrix::clear(output);
+    Reduction::Done(reduce_rows(q, n, row_count, rows, output))
 }

@@ -2,7 +2,7 @@
 --   Call        == a call with its arguments; matrices and rows are flat, row by row; t is the numbering; a lent buffer is given as it is
 --                  before the call
 --   answer      == document 01's numbers for the call, by the definitions that the contracts cite: the refusal number (0 for none), then
---                  what the call answers (count; index; dimension, of Pool two; 1 for "raised"), then the receiver and the lent buffers
+--                  what the call answers (count; index; dimension, of Pool two; identifying vector; 1 for "raised"), then the receiver and the lent buffers
 --                  afterwards; of the list program, all that it writes; of an index, its summands; of the line writer, 1 where the piece
 --                  fits, how far the buffer is then filled, and the buffer
 --   Example     == a call and what it must answer
@@ -20,8 +20,8 @@ use Rattle.text.specs.Piece.{fits, placeAfter, bufferAfter}
 use Rattle.draw.specs.Draw.{drawRefusal, drawBuffer}
 use Rattle.number.specs.Number.{numberOf, answerNumber, answerIndex}
 use Rattle.convert.specs.Convert.{convertOf}
-use Rattle.reduce.specs.Reduce.{reduceOf, reduceBuffer, reductionNumber, reductionDimension}
-use Rattle.receive.specs.Answer.{receivedNumber, receivedIndex, receivedDimension}
+use Rattle.reduce.specs.Reduce.{reduceOf, reduceBuffer, reductionNumber, reductionDimension, reductionVector}
+use Rattle.receive.specs.Answer.{receivedNumber, receivedIndex, receivedDimension, receivedVector}
 use Rattle.receive.specs.Receive.{receiveOf}
 use Rattle.receive.specs.declared.Received.{Received}
 use Rattle.receiver.specs.Receiver.{startOf, startNumber, takeOf, takeNumber, takeRaised, lentReceiver, lentAnswer, closeOf}
@@ -57,8 +57,8 @@ abbrev pub image : Receiver → List ℕ
 image r = r .q ∷ r .n ∷ r .k ∷ r .dimension ∷ r .entries
 
 -- what Receive and Close tell
-abbrev received : ℕ → Received → List ℕ
-received k a = receivedNumber a ∷ receivedIndex a ∷ receivedDimension k a ∷ []
+abbrev received : Received → List ℕ
+received a = receivedNumber a ∷ receivedIndex a ∷ receivedDimension a ∷ receivedVector a ∷ []
 
 abbrev pub answer : Call → List ℕ
 answer (count q n k) = countNumber (countOf q n k) ∷ countValue (countOf q n k) ∷ []
@@ -67,14 +67,15 @@ answer (number q n k t m) = answerNumber (numberOf q n k t m) ∷ answerIndex (n
 answer (convert q n k from to i) = answerNumber (convertOf q n k from to i) ∷ answerIndex (convertOf q n k from to i) ∷ []
 answer (reduce q n r rows output) =
     reductionNumber (reduceOf q n r rows (length output)) ∷ reductionDimension (reduceOf q n r rows (length output))
+    ∷ reductionVector (reduceOf q n r rows (length output))
     ∷ reduceBuffer q n r rows output
-answer (receive q n k t r rows) = received k (receiveOf q n k t r rows)
+answer (receive q n k t r rows) = received (receiveOf q n k t r rows)
 answer (receiveC q n k t r rows bytes) = exportedNumber q n k t r rows (length bytes) ∷ exportedBytes q n k t r rows bytes
 answer (start q n k) = startNumber (startOf q n k) ∷ image ((startOf q n k) .receiver)
 answer (takeValue r row) =
     takeNumber ((takeOf r row) .answer) ∷ bit (takeRaised ((takeOf r row) .answer)) ∷ image ((takeOf r row) .receiver)
 answer (takeLent r row) = takeNumber (lentAnswer r row) ∷ bit (takeRaised (lentAnswer r row)) ∷ image (lentReceiver r row)
-answer (close r t) = received (r .k) (closeOf r t)
+answer (close r t) = received (closeOf r t)
 answer (pool a b joint common) =
     let p = poolOf a b (length joint) (length common) in
     poolNumber (p .answer) ∷ poolJoint (p .answer) ∷ poolCommon (p .answer) ∷ image (p .receiver)

@@ -1,4 +1,4 @@
--- Document 01's "Bench examples", those marked *.
+-- Document 01's "Bench examples", those marked *; with order 2's identifying vector in the answers of Reduce and Receive.
 --   marked   == the table
 -- Assumes nothing.
 use mathlib.Core.List.{List, [], _∷_, _++_}
@@ -51,18 +51,18 @@ marked =
     ∷ (number 2 3 0 1 [] ⇒ (0 ∷ 0 ∷ []))
     ∷ (number 2 3 0 2 [] ⇒ (0 ∷ 0 ∷ []))
     -- "q=3, n=2, k=1: row 21 received gives matrix 12, index 2. N for 3,4,2 is 130."
-    ∷ (reduce 3 2 1 (2 ∷ 1 ∷ []) (lent 4) ⇒ (0 ∷ 1 ∷ 1 ∷ 2 ∷ 0 ∷ 0 ∷ []))
-    ∷ (receive 3 2 1 1 1 (2 ∷ 1 ∷ []) ⇒ (0 ∷ 2 ∷ 1 ∷ []))
-    ∷ (receive 3 2 1 2 1 (2 ∷ 1 ∷ []) ⇒ (0 ∷ 2 ∷ 1 ∷ []))
+    ∷ (reduce 3 2 1 (2 ∷ 1 ∷ []) (lent 4) ⇒ (0 ∷ 1 ∷ 2 ∷ 1 ∷ 2 ∷ 0 ∷ 0 ∷ []))
+    ∷ (receive 3 2 1 1 1 (2 ∷ 1 ∷ []) ⇒ (0 ∷ 2 ∷ 1 ∷ 2 ∷ []))
+    ∷ (receive 3 2 1 2 1 (2 ∷ 1 ∷ []) ⇒ (0 ∷ 2 ∷ 1 ∷ 2 ∷ []))
     ∷ (count 3 4 2 ⇒ (0 ∷ 130 ∷ []))
     -- "2,3,2: rows 110, 011, 101 give 101/011, index 3 in both. Row 110 alone: 8, dimension 1. Rows 100, 010, 001: 9, dimension 3."
-    ∷ (reduce 2 3 3 (1 ∷ 1 ∷ 0 ∷ 0 ∷ 1 ∷ 1 ∷ 1 ∷ 0 ∷ 1 ∷ []) (lent 9) ⇒ (0 ∷ 2 ∷ 1 ∷ 0 ∷ 1 ∷ 0 ∷ 1 ∷ 1 ∷ 0 ∷ 0 ∷ 0 ∷ []))
-    ∷ (receive 2 3 2 1 3 (1 ∷ 1 ∷ 0 ∷ 0 ∷ 1 ∷ 1 ∷ 1 ∷ 0 ∷ 1 ∷ []) ⇒ (0 ∷ 3 ∷ 2 ∷ []))
-    ∷ (receive 2 3 2 2 3 (1 ∷ 1 ∷ 0 ∷ 0 ∷ 1 ∷ 1 ∷ 1 ∷ 0 ∷ 1 ∷ []) ⇒ (0 ∷ 3 ∷ 2 ∷ []))
-    ∷ (receive 2 3 2 1 1 (1 ∷ 1 ∷ 0 ∷ []) ⇒ (8 ∷ 0 ∷ 1 ∷ []))
-    ∷ (receive 2 3 2 2 1 (1 ∷ 1 ∷ 0 ∷ []) ⇒ (8 ∷ 0 ∷ 1 ∷ []))
-    ∷ (receive 2 3 2 1 3 (1 ∷ 0 ∷ 0 ∷ 0 ∷ 1 ∷ 0 ∷ 0 ∷ 0 ∷ 1 ∷ []) ⇒ (9 ∷ 0 ∷ 3 ∷ []))
-    ∷ (receive 2 3 2 2 3 (1 ∷ 0 ∷ 0 ∷ 0 ∷ 1 ∷ 0 ∷ 0 ∷ 0 ∷ 1 ∷ []) ⇒ (9 ∷ 0 ∷ 3 ∷ []))
+    ∷ (reduce 2 3 3 (1 ∷ 1 ∷ 0 ∷ 0 ∷ 1 ∷ 1 ∷ 1 ∷ 0 ∷ 1 ∷ []) (lent 9) ⇒ (0 ∷ 2 ∷ 6 ∷ 1 ∷ 0 ∷ 1 ∷ 0 ∷ 1 ∷ 1 ∷ 0 ∷ 0 ∷ 0 ∷ []))
+    ∷ (receive 2 3 2 1 3 (1 ∷ 1 ∷ 0 ∷ 0 ∷ 1 ∷ 1 ∷ 1 ∷ 0 ∷ 1 ∷ []) ⇒ (0 ∷ 3 ∷ 2 ∷ 6 ∷ []))
+    ∷ (receive 2 3 2 2 3 (1 ∷ 1 ∷ 0 ∷ 0 ∷ 1 ∷ 1 ∷ 1 ∷ 0 ∷ 1 ∷ []) ⇒ (0 ∷ 3 ∷ 2 ∷ 6 ∷ []))
+    ∷ (receive 2 3 2 1 1 (1 ∷ 1 ∷ 0 ∷ []) ⇒ (8 ∷ 0 ∷ 1 ∷ 4 ∷ []))
+    ∷ (receive 2 3 2 2 1 (1 ∷ 1 ∷ 0 ∷ []) ⇒ (8 ∷ 0 ∷ 1 ∷ 4 ∷ []))
+    ∷ (receive 2 3 2 1 3 (1 ∷ 0 ∷ 0 ∷ 0 ∷ 1 ∷ 0 ∷ 0 ∷ 0 ∷ 1 ∷ []) ⇒ (9 ∷ 0 ∷ 3 ∷ 7 ∷ []))
+    ∷ (receive 2 3 2 2 3 (1 ∷ 0 ∷ 0 ∷ 0 ∷ 1 ∷ 0 ∷ 0 ∷ 0 ∷ 1 ∷ []) ⇒ (9 ∷ 0 ∷ 3 ∷ 7 ∷ []))
     -- "2,2,2: 11/01 is refused 7; 11/02 is refused 6, though it isn't reduced either."
     ∷ (number 2 2 2 1 (1 ∷ 1 ∷ 0 ∷ 1 ∷ []) ⇒ (7 ∷ 0 ∷ []))
     ∷ (number 2 2 2 2 (1 ∷ 1 ∷ 0 ∷ 1 ∷ []) ⇒ (7 ∷ 0 ∷ []))

@@ -1,9 +1,10 @@
 -- Examples that tell document 01 from readings that its marked examples do not tell from it.
 --   readings  == the table
 -- Assumes nothing.
-use mathlib.Core.List.{List, [], _∷_}
+use mathlib.Core.List.{List, [], _∷_, _++_}
 use Prim.Native.Nat.{ℕ}
-use Rattle.worked_examples.specs.Answer.{Example, _⇒_, number, draw, reduce, receive, lent}
+use lib.ListN.{replicate}
+use Rattle.worked_examples.specs.Answer.{Example, _⇒_, number, draw, reduce, receive, receiveC, lent, paper}
 
 -- diagrams of 3,1,1,1 and of 2,2,2,0 dots: at n = 7, k = 3 the first two diagrams that another order of formula (12) would exchange
 abbrev steep : List ℕ
@@ -21,11 +22,22 @@ readings =
     ∷ (draw 2 7 3 2 11392 (lent 21) ⇒ (0 ∷ steep))
     ∷ (draw 2 7 3 2 11456 (lent 21) ⇒ (0 ∷ level))
     -- no two elements of the larger fields are renamed: 2 · 3 = 6 is 1 over five elements, and 2 · 4 = 8 is 1 over seven
-    ∷ (reduce 5 2 1 (2 ∷ 1 ∷ []) (lent 4) ⇒ (0 ∷ 1 ∷ 1 ∷ 3 ∷ 0 ∷ 0 ∷ []))
-    ∷ (reduce 5 2 1 (4 ∷ 1 ∷ []) (lent 4) ⇒ (0 ∷ 1 ∷ 1 ∷ 4 ∷ 0 ∷ 0 ∷ []))
-    ∷ (reduce 7 2 1 (2 ∷ 1 ∷ []) (lent 4) ⇒ (0 ∷ 1 ∷ 1 ∷ 4 ∷ 0 ∷ 0 ∷ []))
-    ∷ (reduce 7 2 1 (3 ∷ 1 ∷ []) (lent 4) ⇒ (0 ∷ 1 ∷ 1 ∷ 5 ∷ 0 ∷ 0 ∷ []))
-    ∷ (reduce 7 2 1 (6 ∷ 1 ∷ []) (lent 4) ⇒ (0 ∷ 1 ∷ 1 ∷ 6 ∷ 0 ∷ 0 ∷ []))
-    ∷ (receive 5 2 1 1 1 (2 ∷ 1 ∷ []) ⇒ (0 ∷ 3 ∷ 1 ∷ []))
-    ∷ (receive 7 2 1 1 1 (3 ∷ 1 ∷ []) ⇒ (0 ∷ 5 ∷ 1 ∷ []))
+    ∷ (reduce 5 2 1 (2 ∷ 1 ∷ []) (lent 4) ⇒ (0 ∷ 1 ∷ 2 ∷ 1 ∷ 3 ∷ 0 ∷ 0 ∷ []))
+    ∷ (reduce 5 2 1 (4 ∷ 1 ∷ []) (lent 4) ⇒ (0 ∷ 1 ∷ 2 ∷ 1 ∷ 4 ∷ 0 ∷ 0 ∷ []))
+    ∷ (reduce 7 2 1 (2 ∷ 1 ∷ []) (lent 4) ⇒ (0 ∷ 1 ∷ 2 ∷ 1 ∷ 4 ∷ 0 ∷ 0 ∷ []))
+    ∷ (reduce 7 2 1 (3 ∷ 1 ∷ []) (lent 4) ⇒ (0 ∷ 1 ∷ 2 ∷ 1 ∷ 5 ∷ 0 ∷ 0 ∷ []))
+    ∷ (reduce 7 2 1 (6 ∷ 1 ∷ []) (lent 4) ⇒ (0 ∷ 1 ∷ 2 ∷ 1 ∷ 6 ∷ 0 ∷ 0 ∷ []))
+    ∷ (receive 5 2 1 1 1 (2 ∷ 1 ∷ []) ⇒ (0 ∷ 3 ∷ 1 ∷ 2 ∷ []))
+    ∷ (receive 7 2 1 1 1 (3 ∷ 1 ∷ []) ⇒ (0 ∷ 5 ∷ 1 ∷ 2 ∷ []))
+    -- an identifying vector is read from the right, column 1 at value 1: 011001/000100/000011 has 010110, 22, and not 26; 44 or 11
+    ∷ (reduce 2 6 3 paper (lent 36) ⇒ (0 ∷ 3 ∷ 22 ∷ paper ++ replicate 18 0))
+    ∷ (receive 2 6 3 1 3 paper ⇒ (0 ∷ 928 ∷ 3 ∷ 22 ∷ []))
+    ∷ (receive 2 6 3 2 3 paper ⇒ (0 ∷ 1323 ∷ 3 ∷ 22 ∷ []))
+    -- its bytes, least first: pivots in columns 10 and 1 of 16 are 512 + 1, the bytes 1 and 2
+    ∷ (receiveC 2 16 3 1 2 (replicate 6 0 ++ (1 ∷ replicate 24 0 ++ (1 ∷ []))) (lent 11)
+    ⇒ (8 ∷ replicate 8 0 ++ (2 ∷ 1 ∷ 2 ∷ [])))
+    ∷ (receiveC 2 9 1 1 1 (1 ∷ replicate 8 0) (lent 11) ⇒ (0 ∷ replicate 8 0 ++ (1 ∷ 0 ∷ 1 ∷ [])))
+    -- no dimension has the vector 0, and all of them have all ones
+    ∷ (receive 2 3 0 1 0 [] ⇒ (0 ∷ 0 ∷ 0 ∷ 0 ∷ []))
+    ∷ (receive 2 3 3 1 3 (1 ∷ 0 ∷ 0 ∷ 0 ∷ 1 ∷ 0 ∷ 0 ∷ 0 ∷ 1 ∷ []) ⇒ (0 ∷ 0 ∷ 3 ∷ 7 ∷ []))
     ∷ []

@@ -9,15 +9,17 @@
 --   reducedOf-unique  == every reduced matrix with the rows' span is it
 --   reduced-le, dimension-le == a reduced matrix of n columns has at most n rows, so a dimension is at most n
 --   dimension-has     == d is the dimension, as document 01 says it, exactly where d is computed
+--   vector-has        == d and v are the dimension and the identifying vector exactly where they are those of the matrix that is computed
+--   vector-dimension  == rows have a dimension d exactly where they have it with some identifying vector
 -- Assumes nothing.
-use mathlib.Core.Path.{_≡_, sym, subst}
+use mathlib.Core.Path.{_≡_, refl, ap₂, sym, _∙_, subst}
 use mathlib.Core.List.{List, []}
 use mathlib.Core.Logic.{_↔_}
 use Prim.Native.Nat.{ℕ, zero, suc, _≤_, _<_}
 use native.Mathlib.Omega.{arith}
 use Rattle.field.specs.FieldLaws.{Laws}
-use Rattle.matrix.specs.Matrix.{Reduced, pivot}
-use Rattle.linear.specs.Span.{All, none, Row, SameSpan, HasDimension, rowsOf}
+use Rattle.matrix.specs.Matrix.{Reduced, pivot, identifying}
+use Rattle.linear.specs.Span.{All, none, Row, SameSpan, HasDimension, HasVector, rowsOf}
 use Rattle.linear.specs.Eliminate.{reducedRows, reducedOf, dimension}
 use Rattle.linear.specs.laws.Echelon.{empty}
 use Rattle.linear.specs.laws.Mixture.{span-each, span-same}
@@ -74,5 +76,21 @@ module _ (q : ℕ) (laws : Laws q) (n : ℕ) (rows : List (List ℕ)) (h : All (
     λ e. subst (HasDimension q n rows) e (reducedOf q n rows, reducedOf-reduced, reducedOf-span),
   )
 
+  pub vector-has : (d v : ℕ)
+      → HasVector q n rows d v ↔ ((dimension q n rows ≡ d) × (identifying n (dimension q n rows) (reducedOf q n rows) ≡ v))
+  unfolding HasVector
+  vector-has d v = (
+    λ x.
+        let u = reducedOf-unique d (x .0) (x .1) (x .2) in
+        (sym (u .0), ap₂ (identifying n) (sym (u .0)) (sym (u .1)) ∙ x .3),
+    λ e.
+        subst (λ x. HasVector q n rows x v) (e .0)
+        (reducedOf q n rows, reducedOf-reduced, reducedOf-span, e .1),
+  )
+
   pub dimension-le : dimension q n rows ≤ n
   dimension-le = reduced-le q n (dimension q n rows) (reducedOf q n rows) reducedOf-reduced
+
+pub vector-dimension : (q n : ℕ) (rows : List (List ℕ)) (d : ℕ) → HasDimension q n rows d ↔ ((v : ℕ) × HasVector q n rows d v)
+unfolding HasDimension HasVector
+vector-dimension q n rows d = (λ x. (identifying n d (x .0), (x .0, x .1, x .2, refl)), λ x. (x .1 .0, x .1 .1, x .1 .2))

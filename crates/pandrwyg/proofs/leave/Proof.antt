@@ -1,22 +1,25 @@
 -- `pandrwyg::leave` meets its contract, case by case of what was received.
 use mathlib.Core.Path.{_≡_, _∙_, ap, sym, subst}
-use mathlib.Core.List.{List, [], _∷_, _++_}
+use mathlib.Core.List.{List}
 use Prim.Native.Nat.{ℕ, _<_}
 use lib.ListN.{length}
 use Rattle.receive.specs.Answer.{receivedNumber, receivedDimension}
 use Rattle.receive.specs.declared.Received.{Received}
-use Rattle.pandrwyg.specs.Exported.{answerSize, bytesOf, leftBytes}
+use Rattle.pandrwyg.specs.Exported.{answerSize, answerBytes, leftBytes}
 use borrow.Author.Needs.{needs}
 use Rattle.pandrwyg.proofs.leave.Statement.{statement}
 use Rattle.pandrwyg.proofs.leave.Tie as tie
 
 requires : (c : tie.Start) {r : Received} → c .args .received ≡ r
-    → (length (c .args .answer .now) ≡ answerSize) × (receivedDimension (c .args .k) r < 256)
-requires c e = (c .pre .0, subst (λ r. receivedDimension (c .args .k) r < 256) e (c .pre .1))
+    → (length (c .args .answer .now) ≡ answerSize) × (receivedDimension r < 256)
+requires c e = (c .pre .0, subst (λ r. receivedDimension r < 256) e (c .pre .1))
 
-leaves : (c : tie.Start) {r : Received} {bytes : List ℕ} → c .args .received ≡ r → bytes ≡ leftBytes (c .args .k) (c .args .answer .now) r
-    → (receivedNumber r ≡ receivedNumber (c .args .received)) × (bytes ≡ leftBytes (c .args .k) (c .args .answer .now) (c .args .received))
-leaves c e l = (sym (ap receivedNumber e), l ∙ sym (ap (leftBytes (c .args .k) (c .args .answer .now)) e))
+leaves : (c : tie.Start) {r : Received} {bytes : List ℕ} → c .args .received ≡ r → bytes ≡ leftBytes (c .args .answer .now) r
+    → (receivedNumber r ≡ receivedNumber (c .args .received)) × (bytes ≡ leftBytes (c .args .answer .now) (c .args .received))
+leaves c e l = (sym (ap receivedNumber e), l ∙ sym (ap (leftBytes (c .args .answer .now)) e))
+
+same-index : {i j : ℕ} (d v : ℕ) → i ≡ j → answerBytes i d v ≡ answerBytes j d v
+same-index d v e = ap (λ i. answerBytes i d v) e
 
 enum-known-received : tie.Need-enum-known-received
 enum-known-received c = search needs
@@ -51,7 +54,7 @@ returns c =
     let r = w .before .before .before .before in
     let s = r .before .before .before in
     leaves s (r .received .given .1)
-    (w .write-answer .ensures ∙ ap (λ i. bytesOf 8 i ++ (s .args .k ∷ [])) (w .before .index-value .ensures))
+    (w .write-answer .ensures ∙ same-index _ _ (w .before .index-value .ensures))
 
 same-length-2 : tie.Need-same-length-2
 same-length-2 c = search needs

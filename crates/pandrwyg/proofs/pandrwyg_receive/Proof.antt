@@ -3,11 +3,10 @@ use mathlib.Core.Path.{_≡_, _∙_, ap, sym, subst}
 use Prim.Native.Nat.{_<_}
 use native.Mathlib.Omega.{arith}
 use lib.ListN.{length}
-use Rattle.linear.specs.laws.ReducedOf.{reduced-le}
 use Rattle.refusal.specs.laws.First.{first-refused, kept, done}
+use Rattle.reduce.specs.laws.ReduceRows.{input-most}
 use Rattle.receive.specs.Answer.{receivedNumber, receivedDimension}
-use Rattle.receive.specs.laws.ReducedAnswer.{received-reduced}
-use Rattle.receive.specs.laws.Space.{space-small}
+use Rattle.receive.specs.laws.Space.{space-dimension}
 use Rattle.receive.specs.declared.Received.the-variants.{Refused}
 use Rattle.pandrwyg.specs.Exported.{leftBytes, exportedRefusal, exportedOf, exportedNumber, exportedBytes}
 use Rattle.pandrwyg.specs.laws.ExportedAccepted.{exported-accepted, exported-told}
@@ -30,7 +29,7 @@ returns c =
     let e = c .before .exported-refusal .ensures in
     let refusal = exportedRefusal (a .q) (a .n) (a .k) (a .t) (a .row-count) (a .rows .now) (length (a .answer .now)) in
     let r = kept refusal _ (Refused refusal) (λ z. c .if1 .taken (e ∙ z)) in
-    (e ∙ ap receivedNumber r, (ap (leftBytes (a .k) (a .answer .now)) r, e ∙ sym (first-refused _ _ (λ z. c .if1 .taken (e ∙ z)))))
+    (e ∙ ap receivedNumber r, (ap (leftBytes (a .answer .now)) r, e ∙ sym (first-refused _ _ (λ z. c .if1 .taken (e ∙ z)))))
 
 reduced-answer-requires : tie.Need-reduced-answer-requires
 reduced-answer-requires c κs =
@@ -41,10 +40,14 @@ leave-requires c κs =
     let x = c .before .before .before .before .before .before .args in
     let a = exported-accepted _ _ _ _ _ _ _ (unrefused (c .before .before)) in
     let s = a .rows .choice .settings in
-    let d = reduced-le _ _ _ _ (received-reduced (x .q) (x .n) (x .row-count) (x .rows .now) (s .size) (a .rows .sized) (a .below)) in (
+    let d = ap receivedDimension (c .before .reduced-answer .ensures) ∙ space-dimension (x .q) (x .n) (x .k) (x .t) _ _ in
+    (
       a .room,
-      subst (λ r. receivedDimension (x .k) r < 256) (sym (c .before .reduced-answer .ensures))
-          (space-small (x .q) (x .n) (x .k) (x .t) _ 256 _ (omega (arith, s .narrow, s .dimension)) (omega (arith, s .narrow, d))),
+      omega (
+        arith,
+        s .narrow,
+        input-most (x .q) (x .n) (x .row-count) (x .rows .now) (s .size) (a .rows .sized) (a .below) _ d,
+      ),
     )
 
 same-length : tie.Need-same-length
@@ -60,7 +63,7 @@ returns-2 c =
     let number = l .leave .ensures .0 ∙ ap receivedNumber r in (
       number,
       (
-        l .leave .ensures .1 ∙ ap (leftBytes (a .k) (a .answer .now)) r,
+        l .leave .ensures .1 ∙ ap (leftBytes (a .answer .now)) r,
         number ∙ exported-told _ _ _ _ _ _ (length (a .answer .now)) .number,
       ),
     )

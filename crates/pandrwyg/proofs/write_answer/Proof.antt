@@ -8,10 +8,10 @@ use Rattle.pandrwyg.proofs.write_answer.Statement.{statement}
 use Rattle.pandrwyg.proofs.write_answer.Tie as tie
 
 abbrev Inv-loop : tie.InvT-loop
-Inv-loop answer₀ index dimension rest₀ i₀ answer rest i = Writing index answer rest i
+Inv-loop answer₀ index space rest₀ i₀ answer rest i = Writing index answer rest i
 
 abbrev μ-loop : tie.MeasureT-loop
-μ-loop answer₀ index dimension rest₀ i₀ answer rest i = 8 - i
+μ-loop answer₀ index space rest₀ i₀ answer rest i = 8 - i
 
 loop-holds : tie.Need-loop-holds Inv-loop μ-loop
 loop-holds c = writing-start _ _ (c .pre .0)
@@ -35,17 +35,31 @@ cast-answer-2 : tie.Need-cast-answer-2 Inv-loop μ-loop
 cast-answer-2 c = omega arith
 
 slice-write-answer-2 : tie.Need-slice-write-answer-2 Inv-loop μ-loop
-slice-write-answer-2 c = omega (arith, c .before .loop .inv .sized)
+slice-write-answer-2 c = omega (arith, c .before .before .loop .inv .sized)
+
+cast-answer-3 : tie.Need-cast-answer-3 Inv-loop μ-loop
+cast-answer-3 c = omega arith
+
+slice-write-answer-3 : tie.Need-slice-write-answer-3 Inv-loop μ-loop
+slice-write-answer-3 c = simp length-set (omega (arith, c .before .before .before .loop .inv .sized))
+
+cast-answer-4 : tie.Need-cast-answer-4 Inv-loop μ-loop
+cast-answer-4 c = omega arith
+
+slice-write-answer-4 : tie.Need-slice-write-answer-4 Inv-loop μ-loop
+slice-write-answer-4 c = simp length-set (omega (arith, c .before .before .before .before .loop .inv .sized))
 
 same-length : tie.Need-same-length Inv-loop μ-loop
-same-length c = length-set (c .before .loop .answer) 8 _ ∙ c .before .loop .inv .sized ∙ sym (c .before .before .pre .0)
+same-length c = simp length-set (c .before .before .before .before .loop .inv .sized ∙ sym (c .before .before .before .before .before .pre .0))
 
 returns : tie.Need-returns Inv-loop μ-loop
 returns c =
-    let w = c .before .loop .inv in
-    let e : c .before .loop .i ≡ 8 = omega (arith, w .within, c .loop-test .left) in
-    writing-end (c .before .before .args .index) (c .before .loop .answer) (c .before .loop .rest) (c .before .before .args .dimension)
-    (subst (Writing (c .before .before .args .index) (c .before .loop .answer) (c .before .loop .rest)) e w)
+    let l = c .before .before .before in
+    let a = l .before .before .args in
+    let w = l .before .loop .inv in
+    let e : l .before .loop .i ≡ 8 = omega (arith, w .within, l .loop-test .left) in
+    writing-end (a .index) (l .before .loop .answer) (l .before .loop .rest) (a .space .dimension) (a .space .vector)
+    (subst (Writing (a .index) (l .before .loop .answer) (l .before .loop .rest)) e w)
 
 pub write-answer-spec : {M : Type 1} → statement M
 write-answer-spec =
@@ -61,5 +75,9 @@ write-answer-spec =
     loop-again
     cast-answer-2
     slice-write-answer-2
+    cast-answer-3
+    slice-write-answer-3
+    cast-answer-4
+    slice-write-answer-4
     same-length
     returns)

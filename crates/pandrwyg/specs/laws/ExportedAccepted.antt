@@ -2,7 +2,7 @@
 --   ExportedAccepted == what holds where none of 1, 2, 3, 10, 13, 4, 6 refuses
 --   exported-accepted, exported-unrefused == it is so exactly there
 --   exported-told    == what the answer tells
---   exported-receive == with nine bytes it answers as Receive by value
+--   exported-receive == with an answer of the right length it answers as Receive by value
 -- Assumes nothing.
 use mathlib.Core.Path.{_≡_, refl, ap, _∙_, sym, subst}
 use mathlib.Core.Bool.{true}
@@ -67,7 +67,7 @@ module _ (q n k t r : ℕ) (input : List ℕ) where
       cases (yes z) = subst (Told q n k t d m (exportedRefusal q n k t r input size)) (done _ _ _ z) (space-told q n k t d m _ z)
       cases (no z) = subst (Told q n k t d m (exportedRefusal q n k t r input size)) (kept _ _ _ z) (refused-told q n k t d m _ z)
 
-  -- nine bytes add no refusal
+  -- an answer of the right length adds no refusal
   same : exportedRefusal q n k t r input answerSize ≡ receiveRefusal q n k t r input
   unfolding exportedRefusal receiveRefusal
   same = cases (ℕ-discrete (rowsRefusal q n k t r (length input)) 0)

@@ -1,6 +1,6 @@
 -- `pandrwyg::write_answer`: the bytes of a lent answer, as they are written; no part of the meaning.
 --   Writing index now rest i == i bytes of the index are written to `now`, and `rest` is what is left of it
---   writing-start, -more, -end == none is; one more is; all are, and the dimension is put after them
+--   writing-start, -more, -end == none is; one more is; all are, and the dimension and the vector are put after them
 -- Assumes nothing.
 use mathlib.Core.Path.{_≡_, refl, ap, _∙_, sym}
 use mathlib.Core.List.{List, [], _∷_, _++_, append-nil, append-assoc}
@@ -8,7 +8,7 @@ use Prim.Native.Nat.{ℕ, zero, suc, _+_, _-_, _/_, _%_, _<_, _≤_}
 use native.Mathlib.Omega.{arith}
 use lib.ListN.{length, take, set, length-set}
 use lib.Seq.{take-length}
-use Rattle.pandrwyg.specs.Exported.{bytesOf}
+use Rattle.pandrwyg.specs.Exported.{answerSize, bytesOf, answerBytes}
 
 take-set : (l : List ℕ) (i v : ℕ) → i < length l → take (suc i) (set l i v) ≡ take i l ++ (v ∷ [])
 take-set (x ∷ l) zero v h = refl
@@ -20,10 +20,10 @@ set-last l i v e =
 
 pub record Writing (index : ℕ) (now : List ℕ) (rest i : ℕ) : Type 0 where
   pub within : i ≤ 8
-  pub sized : length now ≡ 9
+  pub sized : length now ≡ answerSize
   pub bytes : take i now ++ bytesOf (8 - i) rest ≡ bytesOf 8 index
 
-pub writing-start : (index : ℕ) (now : List ℕ) → length now ≡ 9 → Writing index now index 0
+pub writing-start : (index : ℕ) (now : List ℕ) → length now ≡ answerSize → Writing index now index 0
 writing-start index now e = record { within = omega arith; sized = e; bytes = refl }
 
 pub writing-more : (index : ℕ) (now : List ℕ) (rest i : ℕ) → i < 8 → Writing index now rest i
@@ -44,7 +44,19 @@ writing-more index now rest i h w =
           ∙ w .bytes;
     }
 
-pub writing-end : (index : ℕ) (now : List ℕ) (rest d : ℕ) → Writing index now rest 8 → set now 8 d ≡ bytesOf 8 index ++ (d ∷ [])
+-- three bytes more, at the end
+set-three : (now : List ℕ) (d v w : ℕ) → length now ≡ 11 → set (set (set now 8 d) 9 v) 10 w ≡ take 8 now ++ (d ∷ v ∷ w ∷ [])
+set-three now d v w e =
+    let one = set now 8 d in
+    let two = set one 9 v in
+    set-last two 10 w (length-set one 9 v ∙ length-set now 8 d ∙ e)
+    ∙ ap (λ x. x ++ (w ∷ [])) (take-set one 9 v (omega (arith, length-set now 8 d)) ∙ ap (λ x. x ++ (v ∷ [])) (take-set now 8 d (omega arith)))
+    ∙ append-assoc (take 8 now ++ (d ∷ [])) (v ∷ []) (w ∷ [])
+    ∙ append-assoc (take 8 now) (d ∷ []) (v ∷ w ∷ [])
+
+pub writing-end : (index : ℕ) (now : List ℕ) (rest d v : ℕ) → Writing index now rest 8
+    → set (set (set now 8 d) 9 (v % 256)) 10 (v / 256 % 256) ≡ answerBytes index d v
 unfolding bytesOf
-writing-end index now rest d w =
-    set-last now 8 d (w .sized) ∙ ap (λ t. t ++ (d ∷ [])) (sym (append-nil (take 8 now)) ∙ w .bytes)
+writing-end index now rest d v w =
+    set-three now d (v % 256) (v / 256 % 256) (w .sized)
+    ∙ ap (λ t. t ++ (d ∷ v % 256 ∷ v / 256 % 256 ∷ [])) (sym (append-nil (take 8 now)) ∙ w .bytes)

@@ -1,7 +1,7 @@
 -- A Receive that is not refused; no part of the meaning.
 --   RowsAccepted     == what holds where none of 1, 2, 3, 10, 13, 4 refuses
 --   rows-accepted, rows-unrefused == it is so exactly there
---   receive-unrefused == nor does 6
+--   receive-unrefused, receive-accepted == nor does 6
 --   receive-told     == what an answer of Receive tells
 -- Assumes nothing.
 use mathlib.Core.Path.{_≡_, _∙_, sym, subst}
@@ -13,7 +13,7 @@ use borrow.Author.Tests.{eq-eqb, le-leb, eqb-true, leb-true}
 use lib.Dec.{T, eqb, leb}
 use lib.ListN.{length}
 use Rattle.basics.specs.laws.Choice.{holds}
-use Rattle.refusal.specs.Refusal.{lengthRefusal, rowCountRefusal, refuseUnless}
+use Rattle.refusal.specs.Refusal.{lengthRefusal, entryRefusal, rowCountRefusal, refuseUnless}
 use Rattle.refusal.specs.laws.First.{first-zero, first-passed, test-zero, test-passed, first-none, kept, done}
 use Rattle.matrix.specs.Matrix.{entriesBelow}
 use Rattle.linear.specs.Span.{rowsOf}
@@ -53,6 +53,16 @@ module _ (q n k t r : ℕ) where
       → receiveRefusal q n k t r input ≡ 0
   unfolding receiveRefusal
   receive-unrefused input e b = first-passed _ _ e ∙ test-passed _ _ _ b ∙ first-none
+
+  pub receive-accepted : (input : List ℕ) → receiveRefusal q n k t r input ≡ 0
+      → RowsAccepted q n k t r (length input) × T (entriesBelow q input)
+  unfolding receiveRefusal
+  receive-accepted input z =
+      let s = first-zero (rowsRefusal q n k t r (length input)) (refuseUnless (entriesBelow q input) entryRefusal ∷ []) z in
+      (
+        rows-accepted (length input) (s .0),
+        holds (entriesBelow q input) (test-zero (entriesBelow q input) entryRefusal [] tt (s .1) .0),
+      )
 
   pub receive-told : (input : List ℕ) (a : Received) → a ≡ receiveOf q n k t r input
       → Told q n k t (dimension q n (rowsOf n r input)) (reducedOf q n (rowsOf n r input)) (receiveRefusal q n k t r input) a

@@ -18,6 +18,7 @@ use Rattle.settings.specs.Settings.{settingsRefusal}
 use Rattle.linear.specs.Span.{All, none, more, Row}
 use Rattle.linear.specs.laws.Every.{all-append}
 use Rattle.numbering.specs.Numbering.{isNumbering, indexOf, indexIn}
+use Rattle.reduce.specs.Reduce.{spaceOf}
 use Rattle.receive.specs.Answer.{spaceAnswer, receivedNumber}
 use Rattle.receiver.specs.Receiver.{wellFormed, holding, takeOf, takeNumber, closeRefusal, closeOf}
 use Rattle.receiver.specs.laws.TakeAccepted.{close-unrefused}
@@ -40,8 +41,8 @@ space-number q n k t d m = cases (ltb d k) (ltb k d)
   where
     cases : (few many : Bool)
         → receivedNumber
-        (pick few (TooFew (record { dimension = d }))
-        (pick many (TooMany (record { dimension = d })) (Done (indexIn t (indexOf q n k t m)))))
+        (pick few (TooFew (spaceOf n d m))
+        (pick many (TooMany (spaceOf n d m)) (Done (indexIn t (indexOf q n k t m)) (spaceOf n d m))))
         ≡ receiverRefusal
         → ⊥
     cases true many e = omega arith

@@ -7,7 +7,7 @@
 -- Assumes nothing.
 use mathlib.Core.Path.{_≡_, refl, ap, ap₂, sym, _∙_, subst}
 use mathlib.Core.Bool.{true}
-use mathlib.Core.List.{List, [], _∷_, _++_}
+use mathlib.Core.List.{List}
 use mathlib.Core.Logic.{_⊎_, inl, inr}
 use Prim.Native.Nat.{ℕ, _^_, _≤_, _<_}
 use native.Mathlib.Omega.{arith}
@@ -18,7 +18,7 @@ use Rattle.settings.specs.Settings.{settingsRefusal}
 use Rattle.settings.specs.laws.Accepted.{accepted as settings-accepted}
 use Rattle.matrix.specs.Matrix.{Reduced, entriesBelow}
 use Rattle.matrix.specs.laws.Tests.{entries-below-true}
-use Rattle.linear.specs.Span.{All, none, Row, InSpan, Mixed, rowsOf, HasDimension}
+use Rattle.linear.specs.Span.{All, Row, InSpan, Mixed, rowsOf, HasVector}
 use Rattle.linear.specs.Eliminate.{join, reducedOf, dimension}
 use Rattle.linear.specs.laws.Every.{all-map, all-at}
 use Rattle.linear.specs.laws.Mixture.{mixed-in-span}
@@ -35,7 +35,7 @@ use Rattle.receive.specs.declared.Received.{Received}
 use Rattle.receiver.specs.Receiver.{holding, closeOf}
 use Rattle.receiver.specs.laws.Held.{settings-laws, holding-used}
 use Rattle.receiver.specs.laws.TakeAccepted.{close-unrefused}
-use Rattle.pandrwyg.specs.Exported.{answerSize, bytesOf, leftBytes, exportedOf, exportedNumber, exportedBytes}
+use Rattle.pandrwyg.specs.Exported.{answerSize, answerBytes, leftBytes, exportedOf, exportedNumber, exportedBytes}
 use Rattle.pandrwyg.specs.laws.ExportedAccepted.{exported-unrefused, exported-told}
 use Rattle.recovery.specs.Calls.{Call, begun, after, accepted}
 use Rattle.recovery.specs.Demand.{told, read, Answers, Recovery, Reception}
@@ -43,6 +43,7 @@ use Rattle.recovery.specs.laws.HoldRows.{well-formed-holding}
 use Rattle.recovery.specs.laws.After.{after-holds, accepted-rows}
 use Rattle.recovery.specs.laws.LittleEndian.{read-bytes}
 use Rattle.recovery.specs.laws.Space.{within-rows, space-typed, space-fewer, space-whole-or-fewer, space-answers}
+use Rattle.recovery.specs.laws.Space.{vector-fits}
 
 module _ (q n k t : ℕ) (settings : settingsRefusal q n k ≡ 0) (known : isNumbering t ≡ true) where
   law : Laws q
@@ -87,9 +88,9 @@ module _ (q n k t : ℕ) (settings : settingsRefusal q n k ≡ 0) (known : isNum
 
     -- what C is told and left
     exported-left : (b : List ℕ) → length b ≡ answerSize
-        → exportedBytes q n k t (length rows) (join rows) b ≡ leftBytes k b (spaceAnswer q n k t (dimension q n rows) (reducedOf q n rows))
+        → exportedBytes q n k t (length rows) (join rows) b ≡ leftBytes b (spaceAnswer q n k t (dimension q n rows) (reducedOf q n rows))
     unfolding exportedBytes
-    exported-left b l = ap (λ x. leftBytes k b (exportedOf q n k t (length rows) (join rows) x)) l ∙ ap (leftBytes k b) exported-rows
+    exported-left b l = ap (λ x. leftBytes b (exportedOf q n k t (length rows) (join rows) x)) l ∙ ap (leftBytes b) exported-rows
 
     exported-number : exportedNumber q n k t (length rows) (join rows) answerSize
         ≡ receivedNumber (spaceAnswer q n k t (dimension q n rows) (reducedOf q n rows))
@@ -111,9 +112,9 @@ module _ (q n k t : ℕ) (settings : settingsRefusal q n k ≡ 0) (known : isNum
         let rows = accepted (begun q n k) cs in
         record {
           answers =
-              subst (λ a. Answers q n k (indexOf q n k t m) (accepted (begun q n k) cs) (told k a)) (sym (close-after cs))
+              subst (λ a. Answers q n k (indexOf q n k t m) (accepted (begun q n k) cs) (told a)) (sym (close-after cs))
               (space-answers q n k t settings m R rows (spanned mixed));
-          typed = λ h. close-after cs ∙ space-typed q n k t settings m R rows (spanned mixed) h;
+          typed = λ v h. close-after cs ∙ space-typed q n k t settings m R rows (spanned mixed) v h;
         }
 
     module _ (rows : List (List ℕ)) (few : length rows ≤ mostRows) (mixed : All (Mixed q n (rowsOf n k m)) rows) where
@@ -130,45 +131,51 @@ module _ (q n k t : ℕ) (settings : settingsRefusal q n k ≡ 0) (known : isNum
       by-value : receiveOf q n k t (length rows) (join rows) ≡ answer
       by-value = receive-rows rows valid few
 
-      answers : Answers q n k (indexOf q n k t m) rows (told k answer)
+      answers : Answers q n k (indexOf q n k t m) rows (told answer)
       answers = space-answers q n k t settings m R rows each
 
-      whole-bytes : (b : List ℕ) → length b ≡ answerSize → HasDimension q n rows k
-          → exportedBytes q n k t (length rows) (join rows) b ≡ bytesOf 8 (indexOf q n k t m) ++ (k ∷ [])
-      whole-bytes b l h =
-          exported-left rows valid few b l ∙ ap (leftBytes k b) (space-typed q n k t settings m R rows each h)
-          ∙ ap (λ x. bytesOf 8 x ++ (k ∷ [])) (typed-value t (indexOf q n k t m))
+      whole-bytes : (b : List ℕ) → length b ≡ answerSize → (v : ℕ) → HasVector q n rows k v
+          → exportedBytes q n k t (length rows) (join rows) b ≡ answerBytes (indexOf q n k t m) k v
+      whole-bytes b l v h =
+          exported-left rows valid few b l ∙ ap (leftBytes b) (space-typed q n k t settings m R rows each v h)
+          ∙ ap (λ x. answerBytes x k v) (typed-value t (indexOf q n k t m))
 
-      fewer-bytes : (b : List ℕ) → length b ≡ answerSize → (d : ℕ) → HasDimension q n rows d → d < k
-          → exportedBytes q n k t (length rows) (join rows) b ≡ bytesOf 8 0 ++ (d ∷ [])
-      fewer-bytes b l d h g = exported-left rows valid few b l ∙ ap (leftBytes k b) (space-fewer q n k t settings m R rows each d h g)
+      fewer-bytes : (b : List ℕ) → length b ≡ answerSize → (d v : ℕ) → HasVector q n rows d v → d < k
+          → exportedBytes q n k t (length rows) (join rows) b ≡ answerBytes 0 d v
+      fewer-bytes b l d v h g = exported-left rows valid few b l ∙ ap (leftBytes b) (space-fewer q n k t settings m R rows each d v h g)
 
       -- what C reads is what the answer tells
       reads : (b : List ℕ) → length b ≡ answerSize
           → read (exportedNumber q n k t (length rows) (join rows) answerSize) (exportedBytes q n k t (length rows) (join rows) b)
-          ≡ told k answer
+          ≡ told answer
       reads b l = cases (space-whole-or-fewer q n k t settings m R rows each)
         where
           number : exportedNumber q n k t (length rows) (join rows) answerSize ≡ receivedNumber answer
           number = exported-number rows valid few
 
-          cases : HasDimension q n rows k ⊎ ((d : ℕ) × HasDimension q n rows d × (d < k))
+          small : (d v : ℕ) → HasVector q n rows d v → v < 2 ^ 16
+          small = vector-fits q n (settings-accepted q n k settings .narrow) rows
+
+          cases : ((v : ℕ) × HasVector q n rows k v) ⊎ ((d v : ℕ) × HasVector q n rows d v × (d < k))
               → read (exportedNumber q n k t (length rows) (join rows) answerSize) (exportedBytes q n k t (length rows) (join rows) b)
-              ≡ told k answer
-          cases (inl h) =
-              ap₂ read (number ∙ ap receivedNumber (space-typed q n k t settings m R rows each h)) (whole-bytes b l h)
-              ∙ read-bytes 0 (indexOf q n k t m) k fits
-              ∙ sym (answers .whole .1 h)
-          cases (inr (d, h, g)) =
-              ap₂ read (number ∙ ap receivedNumber (space-fewer q n k t settings m R rows each d h g)) (fewer-bytes b l d h g)
-              ∙ read-bytes 8 0 d (omega arith)
-              ∙ sym (answers .fewer d h g)
+              ≡ told answer
+          cases (inl (v, h)) =
+              let e = space-typed q n k t settings m R rows each v h in
+              ap₂ read (number ∙ ap receivedNumber e) (whole-bytes b l v h)
+              ∙ read-bytes 0 (indexOf q n k t m) k v fits (small k v h)
+              ∙ ap (λ x. record { number = 0; index = x; dimension = k; vector = v }) (sym (typed-value t (indexOf q n k t m)))
+              ∙ sym (ap told e)
+          cases (inr (d, v, h, g)) =
+              let e = space-fewer q n k t settings m R rows each d v h g in
+              ap₂ read (number ∙ ap receivedNumber e) (fewer-bytes b l d v h g)
+              ∙ read-bytes 8 0 d v (omega arith) (small d v h)
+              ∙ sym (ap told e)
 
       pub received : Reception q n k t (indexOf q n k t m) rows
       received =
           record {
-            answers = subst (λ a. Answers q n k (indexOf q n k t m) rows (told k a)) (sym by-value) answers;
-            typed = λ h. by-value ∙ space-typed q n k t settings m R rows each h;
+            answers = subst (λ a. Answers q n k (indexOf q n k t m) rows (told a)) (sym by-value) answers;
+            typed = λ v h. by-value ∙ space-typed q n k t settings m R rows each v h;
             exported = λ b l. subst (Answers q n k (indexOf q n k t m) rows) (sym (reads b l)) answers;
             whole-bytes = whole-bytes;
             fewer-bytes = fewer-bytes;

@@ -1,7 +1,7 @@
 -- Against emptiness of demand 3: the drawn rows themselves always give the index back. No part of the meaning.
 --   Among x xs           == x is one of xs
 --   drawn-rows-recovered == a list of calls that offers each drawn row at least once, in any order and by either Take, and beside these
---                           only rows that are refused, and closes: closing after it gives the index
+--                           only rows that are refused, and closes: closing after it gives the index, and the matrix's own vector
 --   takeAll rows         == the rows taken by value, one after the other
 --   drawn-rows-taken     == so taking the drawn rows from the top and closing gives the index
 --   drawn-bytes-received == and so does Receive of the drawn bytes
@@ -19,13 +19,14 @@ use Rattle.counts.specs.Gaussian.{gaussian}
 use Rattle.settings.specs.Settings.{settingsRefusal}
 use Rattle.settings.specs.laws.Accepted.{accepted as settings-accepted}
 use Rattle.matrix.specs.Matrix.{Reduced}
-use Rattle.linear.specs.Span.{All, none, more, Row, InSpan, SameSpan, rowsOf, HasDimension}
+use Rattle.linear.specs.Span.{All, none, more, Row, InSpan, SameSpan, rowsOf, HasVector}
 use Rattle.linear.specs.laws.Every.{all-map, all-both}
 use Rattle.linear.specs.laws.Mixture.{span-each, span-same, mixed-in-span}
 use Rattle.linear.specs.laws.FlatMatrix.{rows-length, join-rows}
 use Rattle.linear.specs.laws.ReducedRows.{reduced-rows}
 use Rattle.numbering.specs.Numbering.{isNumbering, indexIn}
 use Rattle.draw.specs.Draw.{drawBuffer}
+use Rattle.reduce.specs.Reduce.{spaceOf}
 use Rattle.receive.specs.Receive.{receiveOf}
 use Rattle.receive.specs.declared.Received.the-variants.{Done}
 use Rattle.receiver.specs.Receiver.{closeOf}
@@ -99,11 +100,11 @@ module _ (q n k t : ℕ) (settings : settingsRefusal q n k ≡ 0) (known : isNum
   pub drawn-rows-recovered : (cs : List Call)
       → All (λ row. Among row (rowsOf n k (drawBuffer q n k t i b)) ⊎ (Row q n row → ⊥)) (offered cs)
       → All (λ row. Among row (offered cs)) (rowsOf n k (drawBuffer q n k t i b))
-      → closeOf (after (begun q n k) cs) t ≡ Done (indexIn t i)
-  unfolding HasDimension
+      → closeOf (after (begun q n k) cs) t ≡ Done (indexIn t i) (spaceOf n k (drawBuffer q n k t i b))
+  unfolding HasVector
   drawn-rows-recovered cs only every =
       demand-3 q n k t settings known .recovery i h b sized cs
-      (all-map (λ v s. mixed-in-span q law n drawnRows valid v .1 s) inside) .typed (drawBuffer q n k t i b, reduced, same)
+      (all-map (λ v s. mixed-in-span q law n drawnRows valid v .1 s) inside) .typed _ (drawBuffer q n k t i b, reduced, same, refl)
     where
       inside : All (InSpan q n drawnRows) (accepted (begun q n k) cs)
       inside =
@@ -120,21 +121,22 @@ module _ (q n k t : ℕ) (settings : settingsRefusal q n k ≡ 0) (known : isNum
       same : SameSpan q n drawnRows (accepted (begun q n k) cs)
       same = span-same q law n drawnRows (accepted (begun q n k) cs) valid (accepted-rows q n k settings cs) outside inside
 
-  pub drawn-rows-taken : closeOf (after (begun q n k) (takeAll (rowsOf n k (drawBuffer q n k t i b)))) t ≡ Done (indexIn t i)
+  pub drawn-rows-taken : closeOf (after (begun q n k) (takeAll (rowsOf n k (drawBuffer q n k t i b)))) t
+      ≡ Done (indexIn t i) (spaceOf n k (drawBuffer q n k t i b))
   drawn-rows-taken =
       drawn-rows-recovered (takeAll drawnRows)
       (subst (All (λ row. Among row drawnRows ⊎ (Row q n row → ⊥))) (sym (offered-all drawnRows))
       (all-map (λ v a. inl a) (each-among drawnRows)))
       (subst (λ rows. All (λ row. Among row rows) drawnRows) (sym (offered-all drawnRows)) (each-among drawnRows))
 
-  pub drawn-bytes-received : receiveOf q n k t k (drawBuffer q n k t i b) ≡ Done (indexIn t i)
-  unfolding HasDimension SameSpan
+  pub drawn-bytes-received : receiveOf q n k t k (drawBuffer q n k t i b) ≡ Done (indexIn t i) (spaceOf n k (drawBuffer q n k t i b))
+  unfolding HasVector SameSpan
   drawn-bytes-received =
       ap₂ (receiveOf q n k t) (sym (rows-length n k (drawBuffer q n k t i b)))
       (sym (join-rows n k (drawBuffer q n k t i b) (reduced .size)))
       ∙ demand-3 q n k t settings known .reception i h b sized drawnRows few
-      (all-map (λ v s. mixed-in-span q law n drawnRows valid v .1 s) (span-each q law n drawnRows valid)) .typed
-      (drawBuffer q n k t i b, reduced, λ v. Iff·rfl)
+      (all-map (λ v s. mixed-in-span q law n drawnRows valid v .1 s) (span-each q law n drawnRows valid)) .typed _
+      (drawBuffer q n k t i b, reduced, λ v. Iff·rfl, refl)
     where
       few : length drawnRows ≤ 64
       few =

@@ -1,15 +1,9 @@
--- `reduce::reduce` meets its contract: what is not refused meets what the reduction requires.
+-- `reduce::reduce` meets its contract: a refusal leaves the output, and what is not refused is what reducing the rows requires.
 use mathlib.Core.Path.{_≡_, _∙_, ap, sym}
-use native.Mathlib.Omega.{arith}
 use lib.ListN.{length, replicate}
-use Rattle.field.specs.laws.Decide.{laws}
-use Rattle.matrix.specs.laws.Tests.{entries-below}
-use Rattle.linear.specs.Span.{rowsOf}
-use Rattle.linear.specs.Eliminate.{reducedRows, reducedOf, dimension}
-use Rattle.reduction.specs.laws.InsertRows.{holds-nothing}
 use Rattle.refusal.specs.laws.First.{kept, done}
 use Rattle.reduce.specs.Reduce.{reduceRefusal, reduceOf, reduceBuffer}
-use Rattle.reduce.specs.laws.ReduceAccepted.{ReduceAccepted, reduce-accepted, reduce-told}
+use Rattle.reduce.specs.laws.ReduceAccepted.{reduce-accepted, reduce-told}
 use Rattle.reduce.specs.declared.Reduction.the-variants.{Done, Refused}
 use borrow.Author.Needs.{needs}
 use Rattle.reduce.proofs.reduce.Statement.{statement}
@@ -19,10 +13,6 @@ unrefused : (c : tie.Else1) →
     let a = c .before .before .before .before .args in
     reduceRefusal (a .q) (a .n) (a .row-count) (a .rows .now) (length (a .output .now)) ≡ 0
 unrefused c = sym (c .before .reduce-refusal .ensures) ∙ c .if1 .left
-
-accepted : (c : tie.Else1) →
-    let a = c .before .before .before .before .args in ReduceAccepted (a .q) (a .n) (a .row-count) (a .rows .now) (length (a .output .now))
-accepted c = reduce-accepted _ _ _ _ _ (unrefused c)
 
 reduce-refusal-requires : tie.Need-reduce-refusal-requires
 reduce-refusal-requires c κs = search needs
@@ -37,26 +27,22 @@ returns c =
 clear-requires : tie.Need-clear-requires
 clear-requires c κs = search needs
 
-slice-aggregate-insert-rows : tie.Need-slice-aggregate-insert-rows
-slice-aggregate-insert-rows c = search needs
+reduce-rows-requires : tie.Need-reduce-rows-requires
+reduce-rows-requires c κs =
+    let z = c .before .before .before .before .before in
+    let a = reduce-accepted _ _ _ _ _ (unrefused z) in
+    (a .field, a .narrow, a .sized, a .below, c .before .before .before .clear .ensures ∙ ap (λ x. replicate x 0) (a .room))
 
 same-length : tie.Need-same-length
 same-length c = search needs
 
-insert-rows-requires : tie.Need-insert-rows-requires
-insert-rows-requires c κs =
-    let a = accepted (c .before .before .before .before .before .before) in
-    let cleared = c .before .before .before .before .clear .ensures ∙ ap (λ x. replicate x 0) (a .room) in
-    let asks = holds-nothing _ (laws _ (a .field)) _ _ cleared in
-    ((a .field, asks .0, asks .1), ((a .narrow, asks .2, omega (arith, a .narrow)), (a .sized, entries-below _ _ (a .below))))
-
 returns-2 : tie.Need-returns-2
-unfolding reduceOf reduceBuffer dimension reducedOf reducedRows rowsOf
+unfolding reduceOf reduceBuffer
 returns-2 c =
-    let r = c .before .before .before .insert-rows .ensures in
-    let z = unrefused (c .before .before .before .before .before .before .before .before .before .before) in
-    let e = ap (λ x. Done (record { dimension = x })) (r .0) ∙ done _ _ _ z in
-    (e, (r .1 .0 ∙ done _ _ _ z, reduce-told _ _ _ _ _ _ e))
+    let r = c .before .before .reduce-rows .ensures in
+    let z = unrefused (c .before .before .before .before .before .before .before .before) in
+    let e = ap Done (r .0) ∙ done _ _ _ z in
+    (e, (r .1 ∙ done _ _ _ z, reduce-told _ _ _ _ _ _ e))
 
 pub reduce-spec : {M : Type 1} → statement M
 reduce-spec =
@@ -65,7 +51,6 @@ reduce-spec =
     reduce-refusal-requires
     returns
     clear-requires
-    slice-aggregate-insert-rows
-    insert-rows-requires
+    reduce-rows-requires
     same-length
     returns-2)

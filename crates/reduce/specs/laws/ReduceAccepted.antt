@@ -1,7 +1,7 @@
 -- A Reduce that is not refused; no part of the meaning.
 --   ReduceAccepted   == what holds where none refuses
 --   reduce-accepted, reduce-unrefused == what is not refused is ReduceAccepted; and back
---   reduce-told      == the number and the dimension that an answer of Reduce tells
+--   reduce-told      == the number, the dimension and the vector that an answer of Reduce tells
 -- Assumes nothing.
 use mathlib.Core.Path.{_≡_, refl, ap, _∙_}
 use mathlib.Core.Bool.{true}
@@ -16,10 +16,10 @@ use Rattle.refusal.specs.laws.First.{test-zero, test-passed, first-none, told-n
 use Rattle.field.specs.Field.{isFieldSize}
 use Rattle.settings.specs.Settings.{rowLengthOk}
 use Rattle.settings.specs.laws.Accepted.{row-length-fits}
-use Rattle.matrix.specs.Matrix.{entriesBelow}
+use Rattle.matrix.specs.Matrix.{entriesBelow, identifying}
 use Rattle.linear.specs.Span.{rowsOf}
-use Rattle.linear.specs.Eliminate.{dimension}
-use Rattle.reduce.specs.Reduce.{mostRows, reduceRefusal, reduceOf, reductionNumber, reductionDimension}
+use Rattle.linear.specs.Eliminate.{reducedOf, dimension}
+use Rattle.reduce.specs.Reduce.{mostRows, spaceOf, reduceRefusal, reduceOf, reductionNumber, reductionDimension, reductionVector}
 use Rattle.reduce.specs.declared.Reduction.{Reduction}
 use Rattle.reduce.specs.declared.Reduction.the-variants.{Done, Refused}
 
@@ -66,10 +66,15 @@ module _ (q n r : ℕ) (input : List ℕ) (size : ℕ) where
   pub reduce-told : (a : Reduction) → a ≡ reduceOf q n r input size
       → (reductionNumber a ≡ reduceRefusal q n r input size)
       × (reductionDimension a ≡ unlessRefused (reduceRefusal q n r input size) (dimension q n (rowsOf n r input)) 0)
+      × (reductionVector a ≡ unlessRefused (reduceRefusal q n r input size)
+      (identifying n (dimension q n (rowsOf n r input)) (reducedOf q n (rowsOf n r input))) 0)
   unfolding reduceOf
   reduce-told a e =
       let refusal = reduceRefusal q n r input size in
-      let d = dimension q n (rowsOf n r input) in (
-        ap reductionNumber e ∙ told-number refusal (Done (record { dimension = d })) (Refused refusal) reductionNumber refl refl,
-        ap reductionDimension e ∙ told-value refusal (Done (record { dimension = d })) (Refused refusal) reductionDimension d refl refl,
+      let d = dimension q n (rowsOf n r input) in
+      let m = reducedOf q n (rowsOf n r input) in
+      let done = Done (spaceOf n d m) in (
+        ap reductionNumber e ∙ told-number refusal done (Refused refusal) reductionNumber refl refl,
+        ap reductionDimension e ∙ told-value refusal done (Refused refusal) reductionDimension d refl refl,
+        ap reductionVector e ∙ told-value refusal done (Refused refusal) reductionVector (identifying n d m) refl refl,
       )

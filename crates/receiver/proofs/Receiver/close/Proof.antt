@@ -1,6 +1,6 @@
 -- `receiver::Receiver::close` meets its contract: a receiver that is not refused is Sound, so what it uses is a reduced matrix.
 use mathlib.Core.Path.{_≡_, _∙_, ap, sym}
-use Prim.Native.Nat.{_*_, _≤_}
+use Prim.Native.Nat.{ℕ, _*_, _≤_}
 use native.Mathlib.Omega.{arith}
 use lib.ListN.{length}
 use Rattle.basics.specs.Choice.{pick}
@@ -56,7 +56,8 @@ space-answer-requires c κs =
     let s = safe b in (
       accepted _ _ _ (s .settings),
       s .reduced,
-      b .before .before .close-refusal .ensures .1 ∙ ap (λ x. pick x (identifying (r .n) (r .dimension) (used r)) 0) (granted b .formed),
+      ap (λ (v : ℕ). record { dimension = r .dimension; vector = v })
+          (b .before .before .close-refusal .ensures .1 ∙ ap (λ x. pick x (identifying (r .n) (r .dimension) (used r)) 0) (granted b .formed)),
     )
 
 returns-2 : tie.Need-returns-2
