@@ -214,24 +214,27 @@ static uint64_t count_plain(unsigned input)
 
 static uint64_t reduce_library(unsigned input)
 {
-    return harness_reduce(now.q, now.n, row_count, rows[input], rows_length(), out, square()).dimension;
+    harness_answer told = harness_reduce(now.q, now.n, row_count, rows[input], rows_length(), out, square());
+    return told.dimension << 16 | told.vector;
 }
 
 static uint64_t reduce_plain(unsigned input)
 {
-    return plain_reduce(now.q, now.n, row_count, rows[input], rows_length(), out, square()).dimension;
+    plain_answer told = plain_reduce(now.q, now.n, row_count, rows[input], rows_length(), out, square());
+    return told.dimension << 16 | told.vector;
 }
 
 static uint64_t reduce_packed(unsigned input)
 {
-    return packed_reduce(now.q, now.n, row_count, rows[input], rows_length(), out, square()).dimension;
+    plain_answer told = packed_reduce(now.q, now.n, row_count, rows[input], rows_length(), out, square());
+    return told.dimension << 16 | told.vector;
 }
 
 static uint64_t received(uint32_t refusal)
 {
     uint64_t index;
     memcpy(&index, answer, sizeof index);
-    return index + refusal + answer[8];
+    return index + refusal + answer[8] + ((uint64_t)answer[9] << 8) + ((uint64_t)answer[10] << 16);
 }
 
 static uint64_t receive_library(unsigned input)
@@ -272,12 +275,14 @@ static uint64_t take_plain(unsigned input)
 
 static uint64_t close_library(unsigned input)
 {
-    return harness_close(receivers[input], numbering).value;
+    harness_answer told = harness_close(receivers[input], numbering);
+    return told.value + told.vector;
 }
 
 static uint64_t close_plain(unsigned input)
 {
-    return plain_close(plain_receivers[input], numbering).value;
+    plain_answer told = plain_close(plain_receivers[input], numbering);
+    return told.value + told.vector;
 }
 
 #ifdef WITH_FLINT

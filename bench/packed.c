@@ -129,12 +129,12 @@ plain_answer packed_reduce(uint64_t q, uint64_t n, uint64_t row_count, const uin
 {
     uint32_t refusal = plain_reduce_refusal(q, n, row_count, rows, rows_length, out_length);
     if (refusal != PLAIN_DONE || q != 2)
-        return (plain_answer){refusal, 0, 0};
+        return (plain_answer){refusal, 0, 0, 0};
     packed_space space = reduce_rows(rows, (unsigned)n, (unsigned)row_count);
     memset(out, 0, out_length);
     for (unsigned row = 0; row < space.count; row++)
         unpack_row(space.rows[row], (unsigned)n, out + row * n);
-    return (plain_answer){PLAIN_DONE, 0, space.count};
+    return (plain_answer){PLAIN_DONE, 0, space.count, space.pivots};
 }
 
 uint32_t packed_receive(uint64_t q, uint64_t n, uint64_t k, uint64_t numbering, uint64_t row_count,
@@ -151,5 +151,5 @@ uint32_t packed_receive(uint64_t q, uint64_t n, uint64_t k, uint64_t numbering, 
         index = numbering == PLAIN_EXTENDED ? extended_index(&space, (unsigned)n, columns)
                                             : ferrers_index(&space, (unsigned)n, columns);
     }
-    return plain_leave(k, space.count, index, answer);
+    return plain_leave(k, space.count, index, space.pivots, answer);
 }

@@ -223,7 +223,7 @@ static void draw(uint64_t q, unsigned n, unsigned k, uint64_t numbering, uint64_
 plain_answer plain_count(uint64_t q, uint64_t n, uint64_t k)
 {
     uint32_t refusal = plain_setting(q, n, k);
-    return (plain_answer){refusal, refusal == PLAIN_DONE ? plain_gaussian[q][n][k] : 0, 0};
+    return (plain_answer){refusal, refusal == PLAIN_DONE ? plain_gaussian[q][n][k] : 0, 0, 0};
 }
 
 uint32_t plain_draw(uint64_t q, uint64_t n, uint64_t k, uint64_t numbering, uint64_t index,
@@ -245,14 +245,14 @@ plain_answer plain_number(uint64_t q, uint64_t n, uint64_t k, uint64_t numbering
     uint8_t pivots[PLAIN_LENGTH];
     uint32_t refusal = plain_choice(q, n, k, numbering);
     if (refusal != PLAIN_DONE)
-        return (plain_answer){refusal, 0, 0};
+        return (plain_answer){refusal, 0, 0, 0};
     if (length != k * n)
-        return (plain_answer){PLAIN_NO_LENGTH, 0, 0};
+        return (plain_answer){PLAIN_NO_LENGTH, 0, 0, 0};
     if (!plain_below(q, matrix, length))
-        return (plain_answer){PLAIN_NO_ENTRY, 0, 0};
+        return (plain_answer){PLAIN_NO_ENTRY, 0, 0, 0};
     if (!plain_pivots((unsigned)n, (unsigned)k, matrix, pivots))
-        return (plain_answer){PLAIN_UNREDUCED, 0, 0};
-    return (plain_answer){PLAIN_DONE, plain_index(q, (unsigned)n, (unsigned)k, numbering, matrix, pivots), 0};
+        return (plain_answer){PLAIN_UNREDUCED, 0, 0, 0};
+    return (plain_answer){PLAIN_DONE, plain_index(q, (unsigned)n, (unsigned)k, numbering, matrix, pivots), 0, 0};
 }
 
 plain_answer plain_convert(uint64_t q, uint64_t n, uint64_t k, uint64_t from, uint64_t to, uint64_t index)
@@ -262,9 +262,9 @@ plain_answer plain_convert(uint64_t q, uint64_t n, uint64_t k, uint64_t from, ui
     if (refusal == PLAIN_DONE)
         refusal = plain_choice(q, n, k, to);
     if (refusal != PLAIN_DONE)
-        return (plain_answer){refusal, 0, 0};
+        return (plain_answer){refusal, 0, 0, 0};
     if (index >= plain_gaussian[q][n][k])
-        return (plain_answer){PLAIN_NO_INDEX, 0, 0};
+        return (plain_answer){PLAIN_NO_INDEX, 0, 0, 0};
     draw(q, (unsigned)n, (unsigned)k, from, index, matrix);
     return plain_number(q, n, k, to, matrix, (size_t)(k * n));
 }

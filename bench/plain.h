@@ -11,7 +11,7 @@
 #include <stdint.h>
 #include <stdio.h>
 
-enum { PLAIN_LENGTH = 16, PLAIN_ROWS = 64, PLAIN_ENTRIES = 256, PLAIN_FIELD = 8, PLAIN_DOTS = 64, PLAIN_ANSWER = 9 };
+enum { PLAIN_LENGTH = 16, PLAIN_ROWS = 64, PLAIN_ENTRIES = 256, PLAIN_FIELD = 8, PLAIN_DOTS = 64, PLAIN_ANSWER = 11 };
 enum { PLAIN_EXTENDED = 1, PLAIN_FERRERS = 2 };
 
 /* Document 01's refusals, as far as plain C gives them. */
@@ -25,7 +25,7 @@ enum {
 
 typedef struct {
     uint32_t refusal;
-    uint64_t value, dimension;
+    uint64_t value, dimension, vector;
 } plain_answer;
 
 typedef struct {
@@ -107,7 +107,10 @@ uint64_t plain_place(unsigned eta, unsigned m, const unsigned *heights);
 uint64_t plain_index(uint64_t q, unsigned n, unsigned k, uint64_t numbering, const uint8_t *matrix,
                      const uint8_t *pivots);
 
-/* Writes the nine bytes of Receive's answer for d dimensions, the index being that of k, and answers the refusal. */
-uint32_t plain_leave(uint64_t k, uint64_t d, uint64_t index, uint8_t *answer);
+/*
+ * Writes the eleven bytes of Receive's answer for d dimensions with this identifying vector, the index being that of k,
+ * and answers the refusal.
+ */
+uint32_t plain_leave(uint64_t k, uint64_t d, uint64_t index, unsigned vector, uint8_t *answer);
 
 #endif

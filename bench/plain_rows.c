@@ -66,6 +66,15 @@ static unsigned insert_all(uint64_t q, unsigned n, unsigned row_count, const uin
     return d;
 }
 
+/* The identifying vector of d rows with these pivots: column j from the right has the value 2^(j-1). */
+static unsigned vector_of(unsigned n, unsigned d, const uint8_t *pivots)
+{
+    unsigned vector = 0;
+    for (unsigned row = 0; row < d; row++)
+        vector |= 1u << (n - 1 - pivots[row]);
+    return vector;
+}
+
 /* ---- Reduce and Receive ---- */
 
 /* Refusals 13, 4 and 6 of a list of rows, and of what is lent for the answer. */
@@ -104,16 +113,19 @@ plain_answer plain_reduce(uint64_t q, uint64_t n, uint64_t row_count, const uint
     uint8_t pivots[PLAIN_LENGTH];
     uint32_t refusal = plain_reduce_refusal(q, n, row_count, rows, rows_length, out_length);
     if (refusal != PLAIN_DONE)
-        return (plain_answer){refusal, 0, 0};
+        return (plain_answer){refusal, 0, 0, 0};
     memset(out, 0, out_length);
-    return (plain_answer){PLAIN_DONE, 0, insert_all(q, (unsigned)n, (unsigned)row_count, rows, out, pivots)};
+    unsigned d = insert_all(q, (unsigned)n, (unsigned)row_count, rows, out, pivots);
+    return (plain_answer){PLAIN_DONE, 0, d, vector_of((unsigned)n, d, pivots)};
 }
 
-uint32_t plain_leave(uint64_t k, uint64_t d, uint64_t index, uint8_t *answer)
+uint32_t plain_leave(uint64_t k, uint64_t d, uint64_t index, unsigned vector, uint8_t *answer)
 {
     for (unsigned place = 0; place < 8; place++)
         answer[place] = (uint8_t)(index >> 8 * place);
     answer[8] = (uint8_t)d;
+    answer[9] = (uint8_t)vector;
+    answer[10] = (uint8_t)(vector >> 8);
     return d < k ? PLAIN_TOO_FEW : d > k ? PLAIN_TOO_MANY : PLAIN_DONE;
 }
 
@@ -128,7 +140,7 @@ uint32_t plain_receive(uint64_t q, uint64_t n, uint64_t k, uint64_t numbering, u
     unsigned d = insert_all(q, (unsigned)n, (unsigned)row_count, rows, matrix, pivots);
     if (d == k)
         index = plain_index(q, (unsigned)n, (unsigned)k, numbering, matrix, pivots);
-    return plain_leave(k, d, index, answer);
+    return plain_leave(k, d, index, vector_of((unsigned)n, d, pivots), answer);
 }
 
 /* ---- The receiver ---- */
@@ -191,11 +203,13 @@ plain_answer plain_close(plain_receiver receiver, uint64_t numbering)
 {
     uint8_t pivots[PLAIN_LENGTH];
     if (!reachable(&receiver, pivots))
-        return (plain_answer){PLAIN_NO_RECEIVER, 0, 0};
+        return (plain_answer){PLAIN_NO_RECEIVER, 0, 0, 0};
     if (numbering != PLAIN_EXTENDED && numbering != PLAIN_FERRERS)
-        return (plain_answer){PLAIN_NO_NUMBERING, 0, 0};
+        return (plain_answer){PLAIN_NO_NUMBERING, 0, 0, 0};
+    unsigned vector = vector_of((unsigned)receiver.n, (unsigned)receiver.dimension, pivots);
     if (receiver.dimension != receiver.k)
-        return (plain_answer){receiver.dimension < receiver.k ? PLAIN_TOO_FEW : PLAIN_TOO_MANY, 0, receiver.dimension};
+        return (plain_answer){receiver.dimension < receiver.k ? PLAIN_TOO_FEW : PLAIN_TOO_MANY, 0, receiver.dimension,
+                              vector};
     return (plain_answer){PLAIN_DONE, plain_index(receiver.q, (unsigned)receiver.n, (unsigned)receiver.k, numbering,
-                                                  receiver.entries, pivots), 0};
+                                                  receiver.entries, pivots), 0, vector};
 }

@@ -7,15 +7,6 @@
 
 const char program_name[] = "cabinet";
 
-/* The index in Receive's answer: eight bytes, least first. */
-static uint64_t answer_index(const uint8_t *answer)
-{
-    uint64_t index = 0;
-    for (unsigned place = 8; place-- > 0;)
-        index = index << 8 | answer[place];
-    return index;
-}
-
 int main(void)
 {
     message heard;
@@ -27,10 +18,10 @@ int main(void)
     if (refusal != 0 && refusal != PANDRWYG_TOO_FEW && refusal != PANDRWYG_TOO_MANY)
         refuse(refusal);
 
-    uint64_t dimension = answer[8];
+    uint64_t dimension = pandrwyg_answer_dimension(answer);
     printf("rows: %" PRIu64 "; dimensions: %" PRIu64 " of %" PRIu64 "; ", heard.row_count, dimension, heard.k);
     if (refusal == 0)
-        printf("record: %" PRIu64 "\n", answer_index(answer));
+        printf("record: %" PRIu64 "\n", pandrwyg_answer_index(answer));
     else if (refusal == PANDRWYG_TOO_FEW)
         printf("missing: %" PRIu64 "\n", heard.k - dimension);
     else

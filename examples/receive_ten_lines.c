@@ -6,8 +6,7 @@ int main(void)
     const uint8_t rows[3 * 6] = {0, 1, 1, 1, 0, 1,  0, 0, 0, 1, 1, 1,  0, 0, 0, 1, 0, 0};
     uint8_t answer[PANDRWYG_ANSWER_SIZE] = {0};
     uint32_t refusal = pandrwyg_receive(2, 6, 3, PANDRWYG_EXTENDED, 3, rows, sizeof rows, answer, sizeof answer);
-    unsigned long long index = 0;
-    for (unsigned place = 8; place-- > 0;)
-        index = index << 8 | answer[place];
-    printf("refusal %u, index %llu, dimension %u\n", refusal, index, answer[8]);
+    printf("refusal %u, index %llu, dimension %u, identifying vector %u\n", refusal,
+           (unsigned long long)pandrwyg_answer_index(answer), pandrwyg_answer_dimension(answer),
+           pandrwyg_answer_vector(answer));
 }

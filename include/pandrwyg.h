@@ -38,8 +38,8 @@ extern "C" {
 #define PANDRWYG_NUMBERING 10 /* the numbering is neither 1 nor 2 */
 #define PANDRWYG_ROW_COUNT 13 /* more than 64 rows */
 
-/* The bytes of Receive's answer: the index in eight, least byte first, then the dimension. */
-#define PANDRWYG_ANSWER_SIZE 9
+/* The bytes of Receive's answer: the index in eight, the dimension in one, the identifying vector in two, least byte first. */
+#define PANDRWYG_ANSWER_SIZE 11
 
 /*
  * Draw: writes the reduced matrix with the given index.
@@ -53,10 +53,11 @@ uint32_t pandrwyg_draw(uint64_t q, uint64_t n, uint64_t k, uint64_t numbering, u
 /*
  * Receive: writes the index of the space that the rows span.
  *   in:      the settings, the numbering, row_count rows (at most 64) in exactly row_count*n bytes, and an answer of
- *            exactly nine bytes, whatever it holds
- *   refuses: 1, 2, 3, 10, 13, 4 (the rows are not exactly row_count*n bytes, or the answer is not nine), 6, 8, 9
- *   leaves:  done, the answer holds the index and k; refused 8 or 9, eight bytes 0 and the dimension of the span;
- *            refused otherwise, the answer is unchanged. The rows are never changed
+ *            exactly PANDRWYG_ANSWER_SIZE bytes, whatever it holds
+ *   refuses: 1, 2, 3, 10, 13, 4 (the rows are not exactly row_count*n bytes, or the answer is not its size), 6, 8, 9
+ *   leaves:  done, the answer holds the index, the dimension, which is k, and the identifying vector of the span; refused
+ *            8 or 9, index 0, and the dimension and the vector of the span; refused otherwise, the answer is unchanged.
+ *            The rows are never changed
  */
 uint32_t pandrwyg_receive(uint64_t q, uint64_t n, uint64_t k, uint64_t numbering, uint64_t row_count,
                           const uint8_t *rows, size_t rows_length, uint8_t *answer, size_t answer_length);
@@ -77,7 +78,7 @@ static inline uint32_t pandrwyg_receive_guarded(uint64_t q, uint64_t n, uint64_t
                                                 uint8_t *answer, size_t answer_length)
 {
     static const uint8_t wrong_rows[1025] = {0}; /* no 64 rows have as many bytes */
-    static uint8_t wrong_answer[10];
+    static uint8_t wrong_answer[PANDRWYG_ANSWER_SIZE + 1];
     if (rows_length > PTRDIFF_MAX || (rows == NULL && rows_length != 0)) {
         rows = wrong_rows;
         rows_length = sizeof wrong_rows;
@@ -88,6 +89,32 @@ static inline uint32_t pandrwyg_receive_guarded(uint64_t q, uint64_t n, uint64_t
     }
     return pandrwyg_receive(q, n, k, numbering, row_count, rows == NULL ? wrong_rows : rows, rows_length,
                             answer == NULL ? wrong_answer : answer, answer_length);
+}
+
+/* What an answer holds after Receive was done, or was refused 8 or 9; any other refusal leaves it as it was. */
+
+/* The index; 0 with 8 and 9. */
+static inline uint64_t pandrwyg_answer_index(const uint8_t *answer)
+{
+    uint64_t index = 0;
+    for (unsigned place = 8; place-- > 0;)
+        index = index << 8 | answer[place];
+    return index;
+}
+
+/* The dimension of the rows' span. */
+static inline uint8_t pandrwyg_answer_dimension(const uint8_t *answer)
+{
+    return answer[8];
+}
+
+/*
+ * The identifying vector of the rows' span: column j from the right has the value 2^(j-1), and is a one where the span's
+ * reduced matrix has a pivot. It has as many ones as the span has dimensions.
+ */
+static inline uint16_t pandrwyg_answer_vector(const uint8_t *answer)
+{
+    return (uint16_t)(answer[9] + 256u * answer[10]);
 }
 
 #define pandrwyg_draw pandrwyg_draw_guarded

@@ -77,7 +77,19 @@ static void receive_null_group(void)
         }
     check(pandrwyg_receive(2, 6, 3, 1, 3, rows, sizeof rows, NULL, 0) == REFUSED_LENGTH, "no room for an answer");
     check(pandrwyg_receive(2, 6, 0, 1, 0, NULL, 0, answer, sizeof answer) == 0, "no rows span the empty matrix");
-    check(answer[0] == 0 && answer[8] == 0, "its index and dimension are 0");
+    for (size_t byte = 0; byte < sizeof answer; byte++)
+        check(answer[byte] == 0, "its index, dimension and vector are 0, not byte %zu", byte);
+    check_group_end();
+}
+
+static void readers_group(void)
+{
+    static const uint8_t answer[] = {1, 2, 3, 4, 5, 6, 7, 248, 9, 10, 251};
+    check_group_begin("the header's readers of an answer");
+    check(sizeof answer == PANDRWYG_ANSWER_SIZE && PANDRWYG_ANSWER_SIZE == 11, "eleven bytes");
+    check(pandrwyg_answer_index(answer) == UINT64_C(0xF807060504030201), "the index, least byte first");
+    check(pandrwyg_answer_dimension(answer) == 9, "the dimension");
+    check(pandrwyg_answer_vector(answer) == 0xFB0A, "the vector, least byte first");
     check_group_end();
 }
 
@@ -99,6 +111,7 @@ static void numbers_group(void)
 int main(void)
 {
     numbers_group();
+    readers_group();
     draw_null_group();
     draw_length_group();
     receive_null_group();

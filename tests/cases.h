@@ -226,10 +226,10 @@ static inline void mix_rows(uint64_t q, uint64_t n, uint64_t count, const uint8_
 static inline uint64_t factor_rank(uint64_t q, uint64_t k, uint64_t r, const uint8_t *factors)
 {
     uint8_t reduced[MAX_LENGTH * MAX_LENGTH];
-    uint64_t rank = 0;
+    second_told told = {0, 0};
     if (k > 0)
-        second_reduce(q, k, r, factors, (size_t)(r * k), reduced, (size_t)(k * k), &rank);
-    return rank;
+        second_reduce(q, k, r, factors, (size_t)(r * k), reduced, (size_t)(k * k), &told);
+    return told.dimension;
 }
 
 /* ---- Lent buffers ---- */

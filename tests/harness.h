@@ -1,6 +1,7 @@
 /*
  * The library's calls without a C form of their own, as the tests reach them. The value is the count or the index;
- * it and the dimension are 0 where document 01 says so.
+ * it and the dimension are 0 where document 01 says so. The vector is the identifying vector that Reduce, Receive and
+ * Close tell, with 8 and 9 too; 0 with other refusals and for the other calls.
  */
 #ifndef HARNESS_H
 #define HARNESS_H
@@ -11,6 +12,7 @@ typedef struct {
     uint32_t refusal;
     uint64_t value;
     uint64_t dimension;
+    uint64_t vector;
 } harness_answer;
 
 /* A receiver, field by field. */

@@ -265,9 +265,9 @@ static void random_plan(const setting *s, unsigned kind, plan *one)
 static bool holds_span(const setting *s, uint64_t count, const uint8_t *rows, const lent *buffer)
 {
     uint8_t reduced[SQUARE];
-    uint64_t dimension;
+    second_told told;
     size_t square = (size_t)(s->n * s->n);
-    second_reduce(s->q, s->n, count, rows, (size_t)(count * s->n), reduced, square, &dimension);
+    second_reduce(s->q, s->n, count, rows, (size_t)(count * s->n), reduced, square, &told);
     return memcmp(buffer->bytes, reduced, square) == 0;
 }
 
@@ -336,11 +336,12 @@ static void figures_group(void)
 static void compare_close(const harness_receiver *receiver, const second_receiver *list)
 {
     for (uint64_t numbering = 0; numbering < 4; numbering++) {
-        uint64_t index, dimension;
-        uint32_t refusal = second_close(list, numbering, &index, &dimension);
+        uint64_t index;
+        second_told told;
+        uint32_t refusal = second_close(list, numbering, &index, &told);
         harness_answer answer = harness_close(*receiver, numbering);
         check(answer.refusal == refusal && answer.value == index &&
-              answer.dimension == (refusal == ACCEPTED ? 0 : dimension),
+              answer.dimension == (refusal == ACCEPTED ? 0 : told.dimension) && answer.vector == told.vector,
               SETTING_FORMAT " in %" PRIu64 ": closed with %u, %" PRIu64 " instead of %u, %" PRIu64,
               SETTING_VALUES(list), numbering, answer.refusal, answer.value, refusal, index);
     }

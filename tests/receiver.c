@@ -62,15 +62,17 @@ static void compare_take(take_form form, harness_receiver *receiver, second_rece
 
 static void compare_close(const harness_receiver *receiver, const second_receiver *model, uint64_t numbering)
 {
-    uint64_t index, dimension;
-    uint32_t refusal = second_close(model, numbering, &index, &dimension);
+    uint64_t index;
+    second_told told;
+    uint32_t refusal = second_close(model, numbering, &index, &told);
     harness_answer answer = harness_close(*receiver, numbering);
     if (refusal == ACCEPTED)
-        dimension = 0;
-    check(answer.refusal == refusal && answer.value == index && answer.dimension == dimension,
-          SETTING_FORMAT " in %" PRIu64 ": closed with %u, %" PRIu64 ", %" PRIu64 " instead of %u, %" PRIu64
-          ", %" PRIu64, SETTING_VALUES(model), numbering, answer.refusal, answer.value, answer.dimension,
-          refusal, index, dimension);
+        told.dimension = 0;
+    check(answer.refusal == refusal && answer.value == index && answer.dimension == told.dimension &&
+          answer.vector == told.vector,
+          SETTING_FORMAT " in %" PRIu64 ": closed with %u, %" PRIu64 ", %" PRIu64 ", %" PRIu64 " instead of %u, %" PRIu64
+          ", %" PRIu64 ", %" PRIu64, SETTING_VALUES(model), numbering, answer.refusal, answer.value, answer.dimension,
+          answer.vector, refusal, index, told.dimension, told.vector);
     close_refusals[refusal]++;
 }
 
@@ -204,7 +206,8 @@ static void round_trip(const setting *s, uint64_t numbering)
               SETTING_FORMAT ": refusal %u, raised %u", SETTING_VALUES(s), step.refusal, step.raised);
         receiver = step.receiver;
         harness_answer answer = harness_close(receiver, numbering);
-        bool right = rank == s->k ? answer.refusal == ACCEPTED && answer.value == index
+        uint64_t drawn = second_identifying_vector(s->n, s->k, matrix);
+        bool right = rank == s->k ? answer.refusal == ACCEPTED && answer.value == index && answer.vector == drawn
                                   : answer.refusal == REFUSED_TOO_FEW && answer.dimension == rank;
         check(right, SETTING_FORMAT " in %" PRIu64 ": index %" PRIu64 ", %" PRIu64 " rows of rank %" PRIu64,
               SETTING_VALUES(s), numbering, index, r + 1, rank);
@@ -224,7 +227,7 @@ static void round_trip_group(uint64_t numbering)
 
 /* Takes rows of digits; what is raised is told by 1, what is held by 0. Then closes in both numberings. */
 static void compare_figure(setting s, const char *rows, const char *raised, uint32_t refusal, uint64_t index,
-                           uint64_t dimension)
+                           second_told told)
 {
     uint8_t entries[ROWS_LIMIT];
     size_t count = read_rows(rows, entries) / s.n;
@@ -238,8 +241,8 @@ static void compare_figure(setting s, const char *rows, const char *raised, uint
         }
         for (uint64_t numbering = EXTENDED; numbering <= FERRERS; numbering++) {
             harness_answer answer = harness_close(receiver, numbering);
-            check(answer.refusal == refusal && answer.value == index && answer.dimension == dimension,
-                  "%s in %" PRIu64, rows, numbering);
+            check(answer.refusal == refusal && answer.value == index && answer.dimension == told.dimension &&
+                  answer.vector == told.vector, "%s in %" PRIu64, rows, numbering);
         }
     }
 }
@@ -247,13 +250,13 @@ static void compare_figure(setting s, const char *rows, const char *raised, uint
 static void figures_group(void)
 {
     check_group_begin("figures of document 01, row by row");
-    compare_figure((setting){3, 2, 1, 0}, "21", "1", ACCEPTED, 2, 0);
-    compare_figure((setting){2, 3, 2, 0}, "110/011/101", "110", ACCEPTED, 3, 0);
-    compare_figure((setting){2, 3, 2, 0}, "110", "1", REFUSED_TOO_FEW, 0, 1);
-    compare_figure((setting){2, 3, 2, 0}, "100/010/001", "111", REFUSED_TOO_MANY, 0, 3);
-    compare_figure((setting){2, 3, 0, 0}, "", "", ACCEPTED, 0, 0);
-    compare_figure((setting){2, 3, 0, 0}, "000/000", "00", ACCEPTED, 0, 0);
-    compare_figure((setting){2, 3, 1, 0}, "001/000/001", "100", ACCEPTED, 6, 0);
+    compare_figure((setting){3, 2, 1, 0}, "21", "1", ACCEPTED, 2, (second_told){0, 2});
+    compare_figure((setting){2, 3, 2, 0}, "110/011/101", "110", ACCEPTED, 3, (second_told){0, 6});
+    compare_figure((setting){2, 3, 2, 0}, "110", "1", REFUSED_TOO_FEW, 0, (second_told){1, 4});
+    compare_figure((setting){2, 3, 2, 0}, "100/010/001", "111", REFUSED_TOO_MANY, 0, (second_told){3, 7});
+    compare_figure((setting){2, 3, 0, 0}, "", "", ACCEPTED, 0, (second_told){0, 0});
+    compare_figure((setting){2, 3, 0, 0}, "000/000", "00", ACCEPTED, 0, (second_told){0, 0});
+    compare_figure((setting){2, 3, 1, 0}, "001/000/001", "100", ACCEPTED, 6, (second_told){0, 1});
     check_group_end();
 }
 
@@ -268,7 +271,7 @@ static void compare_unreachable(const harness_receiver *receiver, const uint8_t 
               receiver->dimension, form_names[form], step.refusal);
     }
     harness_answer answer = harness_close(*receiver, random_below(4));
-    check(answer.refusal == REFUSED_RECEIVER && answer.value == 0 && answer.dimension == 0,
+    check(answer.refusal == REFUSED_RECEIVER && answer.value == 0 && answer.dimension == 0 && answer.vector == 0,
           SETTING_FORMAT " of dimension %" PRIu64 ", Close: refusal %u", SETTING_VALUES(receiver),
           receiver->dimension, answer.refusal);
 }

@@ -7,7 +7,7 @@
 #include "check.h"
 #include "harness.h"
 
-enum { SQUARE = MAX_LENGTH * MAX_LENGTH, LIST_ROUNDS = 60, TRIP_ROUNDS = 12, DRAWN_TRIPS = 3, ANSWER = 9 };
+enum { SQUARE = MAX_LENGTH * MAX_LENGTH, LIST_ROUNDS = 60, TRIP_ROUNDS = 12, DRAWN_TRIPS = 3, ANSWER = 11 };
 
 /* A list of rows over a field; it holds one row more than is accepted. */
 typedef struct {
@@ -92,15 +92,14 @@ static void compare_reduce(const list *one)
 {
     lent out;
     uint8_t expected[SQUARE];
-    uint64_t dimension;
+    second_told told;
     size_t out_length = (size_t)(one->n * one->n);
-    uint32_t refusal = second_reduce(one->q, one->n, one->r, one->rows, length_of(one), expected, out_length,
-                                     &dimension);
+    uint32_t refusal = second_reduce(one->q, one->n, one->r, one->rows, length_of(one), expected, out_length, &told);
     harness_answer answer = reduce(one, &out);
     check(refusal == ACCEPTED && answer.refusal == ACCEPTED, "refused %u", answer.refusal);
-    check(answer.dimension == dimension,
-          "q = %" PRIu64 ", n = %" PRIu64 ", %" PRIu64 " rows: dimension %" PRIu64 " instead of %" PRIu64,
-          one->q, one->n, one->r, answer.dimension, dimension);
+    check(answer.dimension == told.dimension && answer.vector == told.vector,
+          "q = %" PRIu64 ", n = %" PRIu64 ", %" PRIu64 " rows: dimension %" PRIu64 ", vector %" PRIu64 " instead of %" PRIu64
+          ", %" PRIu64, one->q, one->n, one->r, answer.dimension, answer.vector, told.dimension, told.vector);
     check(memcmp(out.bytes, expected, out_length) == 0,
           "q = %" PRIu64 ", n = %" PRIu64 ", %" PRIu64 " rows: other matrix", one->q, one->n, one->r);
 }
@@ -153,7 +152,7 @@ static void compare_variants(list *one)
     shuffle_rows(one);
     harness_answer after = reduce(one, &second);
     check(before.refusal == ACCEPTED && after.refusal == ACCEPTED && before.dimension == after.dimension &&
-          memcmp(&first, &second, sizeof first) == 0, "other result after the rows were mixed");
+          before.vector == after.vector && memcmp(&first, &second, sizeof first) == 0, "other result after the rows were mixed");
 }
 
 static void meaning_group(uint64_t q)
@@ -171,30 +170,46 @@ static void meaning_group(uint64_t q)
 
 /* ---- Receive ---- */
 
-/* The nine bytes as document 01 has them, in a buffer that was filled before. */
-static void expected_answer(uint32_t refusal, uint64_t index, uint64_t dimension, uint8_t *answer)
+/* Whether an answer tells of a span: it is done, or refused 8 or 9. */
+static bool tells_span(uint32_t refusal)
+{
+    return refusal == ACCEPTED || refusal == REFUSED_TOO_FEW || refusal == REFUSED_TOO_MANY;
+}
+
+/* The eleven bytes as document 01 and order 2 have them, in a buffer that was filled before. */
+static void expected_answer(uint32_t refusal, uint64_t index, second_told told, uint8_t *answer)
 {
     memset(answer, FILLING, ANSWER);
-    if (refusal != ACCEPTED && refusal != REFUSED_TOO_FEW && refusal != REFUSED_TOO_MANY)
+    if (!tells_span(refusal))
         return;
     for (unsigned place = 0; place < 8; place++)
         answer[place] = refusal == ACCEPTED ? (uint8_t)(index >> 8 * place) : 0;
-    answer[8] = (uint8_t)dimension;
+    answer[8] = (uint8_t)told.dimension;
+    answer[9] = (uint8_t)told.vector;
+    answer[10] = (uint8_t)(told.vector >> 8);
 }
 
-/* Whether Receive by value gives this refusal, index and dimension; done, it tells no dimension. */
+/* Whether the header's readers find in an answer what it must hold. */
+static bool reads(const uint8_t *answer, uint32_t refusal, uint64_t index, second_told told)
+{
+    return !tells_span(refusal) || (pandrwyg_answer_index(answer) == (refusal == ACCEPTED ? index : 0) &&
+                                    pandrwyg_answer_dimension(answer) == told.dimension &&
+                                    pandrwyg_answer_vector(answer) == told.vector);
+}
+
+/* Whether Receive by value gives this refusal, index, dimension and vector; done, it tells no dimension. */
 static bool receives_by_value(const setting *s, uint64_t numbering, uint64_t r, const uint8_t *rows, size_t length,
-                              uint32_t refusal, uint64_t index, uint64_t dimension)
+                              uint32_t refusal, uint64_t index, second_told told)
 {
     harness_answer answer = harness_receive(s->q, s->n, s->k, numbering, r, rows, length);
-    bool spanned = refusal == REFUSED_TOO_FEW || refusal == REFUSED_TOO_MANY;
     return answer.refusal == refusal && answer.value == (refusal == ACCEPTED ? index : 0) &&
-           answer.dimension == (spanned ? dimension : 0);
+           answer.dimension == (tells_span(refusal) && refusal != ACCEPTED ? told.dimension : 0) &&
+           answer.vector == (tells_span(refusal) ? told.vector : 0);
 }
 
 /* Whether both forms of Receive give this refusal and these answers, and leave the rows and all other bytes alone. */
 static bool receives(const setting *s, uint64_t numbering, const list *one,
-                     uint32_t refusal, uint64_t index, uint64_t dimension)
+                     uint32_t refusal, uint64_t index, second_told told)
 {
     lent buffer;
     list kept = *one;
@@ -202,20 +217,21 @@ static bool receives(const setting *s, uint64_t numbering, const list *one,
     memset(&buffer, FILLING, sizeof buffer);
     uint32_t given = pandrwyg_receive(s->q, s->n, s->k, numbering, one->r, one->rows, length_of(one),
                                       buffer.bytes, ANSWER);
-    expected_answer(refusal, index, dimension, expected);
+    expected_answer(refusal, index, told, expected);
     return given == refusal && memcmp(buffer.bytes, expected, ANSWER) == 0 && outside_filled(&buffer, ANSWER) &&
-           receives_by_value(s, numbering, one->r, one->rows, length_of(one), refusal, index, dimension) &&
+           reads(buffer.bytes, refusal, index, told) &&
+           receives_by_value(s, numbering, one->r, one->rows, length_of(one), refusal, index, told) &&
            memcmp(kept.rows, one->rows, length_of(one)) == 0;
 }
 
 static void compare_receive(const setting *s, uint64_t numbering, const list *one)
 {
-    uint64_t index, dimension;
-    uint32_t refusal = second_receive(s->q, s->n, s->k, numbering, one->r, one->rows, length_of(one),
-                                      &index, &dimension);
-    check(receives(s, numbering, one, refusal, index, dimension),
-          SETTING_FORMAT " in %" PRIu64 ": %" PRIu64 " rows, not refusal %u, index %" PRIu64 ", dimension %" PRIu64,
-          SETTING_VALUES(s), numbering, one->r, refusal, index, dimension);
+    uint64_t index;
+    second_told told;
+    uint32_t refusal = second_receive(s->q, s->n, s->k, numbering, one->r, one->rows, length_of(one), &index, &told);
+    check(receives(s, numbering, one, refusal, index, told),
+          SETTING_FORMAT " in %" PRIu64 ": %" PRIu64 " rows, not refusal %u, index %" PRIu64 ", dimension %" PRIu64
+          ", vector %" PRIu64, SETTING_VALUES(s), numbering, one->r, refusal, index, told.dimension, told.vector);
 }
 
 static void receive_group(uint64_t q)
@@ -270,7 +286,7 @@ static void every_list_groups(void)
 
 /* ---- Round trip ---- */
 
-/* Draws, mixes at random and receives: the index again, or too few with the true dimension. */
+/* Draws, mixes at random and receives: the index again with the drawn vector, or too few with the true dimension. */
 static void round_trip(const setting *s, uint64_t numbering, uint64_t index, const uint8_t *matrix, uint64_t r)
 {
     uint8_t drawn[SQUARE] = {0}, factors[ROWS_LIMIT];
@@ -281,8 +297,10 @@ static void round_trip(const setting *s, uint64_t numbering, uint64_t index, con
     for (uint64_t row = 0; row < r; row++)
         mix_rows(s->q, s->n, s->k, matrix, factors + row * s->k, one.rows + row * s->n);
     uint64_t rank = factor_rank(s->q, s->k, r, factors);
-    bool right = rank == s->k ? receives(s, numbering, &one, ACCEPTED, index, rank)
-                              : receives(s, numbering, &one, REFUSED_TOO_FEW, 0, rank);
+    second_told told = {rank, second_identifying_vector(s->n, s->k, matrix)};
+    if (rank < s->k)
+        second_reduce(s->q, s->n, r, one.rows, length_of(&one), drawn, (size_t)(s->n * s->n), &told);
+    bool right = told.dimension == rank && receives(s, numbering, &one, rank == s->k ? ACCEPTED : REFUSED_TOO_FEW, index, told);
     check(right, SETTING_FORMAT " in %" PRIu64 ": index %" PRIu64 ", %" PRIu64 " rows of rank %" PRIu64,
           SETTING_VALUES(s), numbering, index, r, rank);
 }
@@ -317,15 +335,15 @@ static void round_trip_group(uint64_t q, uint64_t numbering)
 
 /* ---- Figures ---- */
 
-static void compare_figure(setting s, const char *rows, uint32_t refusal, uint64_t index, uint64_t dimension)
+static void compare_figure(setting s, const char *rows, uint32_t refusal, uint64_t index, second_told told)
 {
     list one = {s.q, s.n, 0, {0}};
     one.r = read_rows(rows, one.rows) / s.n;
-    check(receives(&s, EXTENDED, &one, refusal, index, dimension), "%s in the extended numbering", rows);
-    check(receives(&s, FERRERS, &one, refusal, index, dimension), "%s in the Ferrers numbering", rows);
+    check(receives(&s, EXTENDED, &one, refusal, index, told), "%s in the extended numbering", rows);
+    check(receives(&s, FERRERS, &one, refusal, index, told), "%s in the Ferrers numbering", rows);
 }
 
-static void compare_reduced(uint64_t q, uint64_t n, const char *rows, const char *reduced, uint64_t dimension)
+static void compare_reduced(uint64_t q, uint64_t n, const char *rows, const char *reduced, second_told told)
 {
     lent out;
     list one = {q, n, 0, {0}};
@@ -333,24 +351,42 @@ static void compare_reduced(uint64_t q, uint64_t n, const char *rows, const char
     one.r = read_rows(rows, one.rows) / n;
     read_rows(reduced, expected);
     harness_answer answer = reduce(&one, &out);
-    check(answer.refusal == ACCEPTED && answer.dimension == dimension &&
+    check(answer.refusal == ACCEPTED && answer.dimension == told.dimension && answer.vector == told.vector &&
           memcmp(out.bytes, expected, (size_t)(n * n)) == 0, "%s isn't reduced to %s", rows, reduced);
 }
 
 static void figures_group(void)
 {
     check_group_begin("figures of document 01");
-    compare_reduced(3, 2, "21", "12", 1);
-    compare_figure((setting){3, 2, 1, 0}, "21", ACCEPTED, 2, 1);
-    compare_reduced(2, 3, "110/011/101", "101/011", 2);
-    compare_figure((setting){2, 3, 2, 0}, "110/011/101", ACCEPTED, 3, 2);
-    compare_figure((setting){2, 3, 2, 0}, "110", REFUSED_TOO_FEW, 0, 1);
-    compare_figure((setting){2, 3, 2, 0}, "100/010/001", REFUSED_TOO_MANY, 0, 3);
-    compare_figure((setting){2, 3, 0, 0}, "", ACCEPTED, 0, 0);
-    compare_figure((setting){2, 3, 0, 0}, "000/000", ACCEPTED, 0, 0);
-    compare_figure((setting){2, 3, 0, 0}, "010", REFUSED_TOO_MANY, 0, 1);
-    compare_figure((setting){2, 3, 1, 0}, "", REFUSED_TOO_FEW, 0, 0);
-    compare_figure((setting){2, 3, 1, 0}, "001/000/001", ACCEPTED, 6, 1);
+    compare_reduced(3, 2, "21", "12", (second_told){1, 2});
+    compare_figure((setting){3, 2, 1, 0}, "21", ACCEPTED, 2, (second_told){1, 2});
+    compare_reduced(2, 3, "110/011/101", "101/011", (second_told){2, 6});
+    compare_figure((setting){2, 3, 2, 0}, "110/011/101", ACCEPTED, 3, (second_told){2, 6});
+    compare_figure((setting){2, 3, 2, 0}, "110", REFUSED_TOO_FEW, 0, (second_told){1, 4});
+    compare_figure((setting){2, 3, 2, 0}, "100/010/001", REFUSED_TOO_MANY, 0, (second_told){3, 7});
+    compare_figure((setting){2, 3, 0, 0}, "", ACCEPTED, 0, (second_told){0, 0});
+    compare_figure((setting){2, 3, 0, 0}, "000/000", ACCEPTED, 0, (second_told){0, 0});
+    compare_figure((setting){2, 3, 0, 0}, "010", REFUSED_TOO_MANY, 0, (second_told){1, 2});
+    compare_figure((setting){2, 3, 1, 0}, "", REFUSED_TOO_FEW, 0, (second_told){0, 0});
+    compare_figure((setting){2, 3, 1, 0}, "001/000/001", ACCEPTED, 6, (second_told){1, 1});
+    check_group_end();
+}
+
+/* Order 2, over every accepted setting: no rows have the vector 0, and all unit rows have all ones, 2^n - 1. */
+static void ends_group(void)
+{
+    check_group_begin("vectors of no rows and of all unit rows");
+    for (size_t number = 0; number < setting_count; number++) {
+        const setting *s = &settings[number];
+        list none = {s->q, s->n, 0, {0}}, all = {s->q, s->n, s->n, {0}};
+        for (uint64_t row = 0; row < s->n; row++)
+            all.rows[row * s->n + row] = (uint8_t)(s->q - 1);
+        second_told told = {s->n, (UINT64_C(1) << s->n) - 1};
+        check(receives(s, EXTENDED, &none, s->k == 0 ? ACCEPTED : REFUSED_TOO_FEW, 0, (second_told){0, 0}),
+              SETTING_FORMAT ": no rows", SETTING_VALUES(s));
+        check(receives(s, FERRERS, &all, s->k == s->n ? ACCEPTED : REFUSED_TOO_MANY, 0, told),
+              SETTING_FORMAT ": all unit rows", SETTING_VALUES(s));
+    }
     check_group_end();
 }
 
@@ -387,12 +423,12 @@ static void compare_reduce_call(uint64_t q, uint64_t n, uint64_t r,
 {
     lent out;
     uint8_t expected[SQUARE];
-    uint64_t dimension;
+    second_told told;
     memset(&out, FILLING, sizeof out);
     memset(expected, FILLING, sizeof expected);
-    uint32_t refusal = second_reduce(q, n, r, rows, length, expected, out_length, &dimension);
+    uint32_t refusal = second_reduce(q, n, r, rows, length, expected, out_length, &told);
     harness_answer answer = harness_reduce(q, n, r, rows, length, out.bytes, out_length);
-    check(answer.refusal == refusal && answer.dimension == dimension,
+    check(answer.refusal == refusal && answer.dimension == told.dimension && answer.vector == told.vector,
           "q = %" PRIu64 ", n = %" PRIu64 ", %" PRIu64 " rows, %zu and %zu bytes: refusal %u instead of %u",
           q, n, r, length, out_length, answer.refusal, refusal);
     check(memcmp(out.bytes, expected, sizeof expected) == 0 && is_filled(out.before, MARGIN) &&
@@ -486,13 +522,14 @@ static void compare_receive_call(const setting *s, uint64_t numbering, uint64_t 
 {
     lent buffer;
     uint8_t expected[ANSWER];
-    uint64_t index, dimension;
-    uint32_t refusal = second_receive(s->q, s->n, s->k, numbering, r, rows, length, &index, &dimension);
-    check(receives_by_value(s, numbering, r, rows, length, refusal, index, dimension),
+    uint64_t index;
+    second_told told;
+    uint32_t refusal = second_receive(s->q, s->n, s->k, numbering, r, rows, length, &index, &told);
+    check(receives_by_value(s, numbering, r, rows, length, refusal, index, told),
           SETTING_FORMAT " in %" PRIu64 ", %" PRIu64 " rows, %zu bytes: by value, not refusal %u",
           SETTING_VALUES(s), numbering, r, length, refusal);
     refusal = expected_refusal(refusal, answer_length);
-    expected_answer(refusal, index, dimension, expected);
+    expected_answer(refusal, index, told, expected);
     memset(&buffer, FILLING, sizeof buffer);
     uint32_t given = pandrwyg_receive(s->q, s->n, s->k, numbering, r, rows, length, buffer.bytes, answer_length);
     check(given == refusal,
@@ -527,7 +564,7 @@ static void sixty_four_group(void)
     uint8_t answer[ANSWER], out[9];
     check_group_begin("64 and 65 rows");
     check(pandrwyg_receive(2, 3, 1, EXTENDED, 64, rows, 64 * 3, answer, ANSWER) == ACCEPTED, "64 rows refused");
-    check(answer[0] == 2 && answer[8] == 1, "the last of 64 rows isn't read");
+    check(answer[0] == 2 && answer[8] == 1 && answer[9] == 2, "the last of 64 rows isn't read");
     check(pandrwyg_receive(2, 3, 1, EXTENDED, 65, rows, 65 * 3, answer, ANSWER) == REFUSED_ROW_COUNT, "65 rows");
     check(harness_reduce(2, 3, 64, rows, 64 * 3, out, 9).refusal == ACCEPTED && out[1] == 1, "64 rows to reduce");
     check(harness_reduce(2, 3, 65, rows, 65 * 3, out, 9).refusal == REFUSED_ROW_COUNT, "65 rows to reduce");
@@ -539,7 +576,7 @@ static void sixty_four_group(void)
 /* Lists that would be accepted, or refused 6, 8 or 9, with answers of several lengths. */
 static void receive_answers_group(void)
 {
-    static const size_t lengths[] = {0, 1, 8, 9, 10, 16, 18, 255, 256};
+    static const size_t lengths[] = {0, 1, 8, 9, 10, 11, 12, 16, 18, 22, 255, 256};
     list one;
     check_group_begin("receive, answer lengths");
     for (unsigned round = 0; round < 4000 / thinning; round++) {
@@ -565,7 +602,7 @@ static void receive_entries_group(void)
             continue;
         uint64_t oversized = round % 3 == 0 ? s->q : round % 3 == 1 ? 255 : s->q + random_below(256 - s->q);
         one.rows[random_below(length_of(&one))] = (uint8_t)oversized;
-        check(receives(s, numberings[round % 2], &one, REFUSED_ENTRY, 0, 0),
+        check(receives(s, numberings[round % 2], &one, REFUSED_ENTRY, 0, (second_told){0, 0}),
               SETTING_FORMAT ": oversized entry %" PRIu64, SETTING_VALUES(s), oversized);
     }
     check_group_end();
@@ -617,6 +654,7 @@ int main(int argument_count, char **arguments)
     }
     every_list_groups();
     figures_group();
+    ends_group();
     inverses_group();
     reduce_damage_groups();
     receive_damage_groups();

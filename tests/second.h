@@ -9,7 +9,7 @@
  * of document 001; calls, refusals and orders are those of document 01.
  *
  * Every call answers a refusal number, 0 for done. A refused call leaves lent buffers as they were and sets the
- * index, count and dimension to 0, except that too few and too many dimensions also give the dimension.
+ * index, count, dimension and vector to 0, except that too few and too many dimensions also give these two.
  */
 #ifndef SECOND_H
 #define SECOND_H
@@ -52,13 +52,18 @@ uint32_t second_draw(uint64_t q, uint64_t n, uint64_t k, uint64_t numbering,
 uint32_t second_convert(uint64_t q, uint64_t n, uint64_t k, uint64_t from, uint64_t to,
                         uint64_t index, uint64_t *converted);
 
+/* What is told of a span: its dimension, and its identifying vector, column j from the right at the value 2^(j-1). */
+typedef struct {
+    uint64_t dimension, vector;
+} second_told;
+
 /* Reduce: r rows to the n x n bytes of the reduced rows, then zeros. Refuses 1, 2 for n only, 13, 4, 6. */
 uint32_t second_reduce(uint64_t q, uint64_t n, uint64_t r, const uint8_t *rows, size_t rows_length,
-                       uint8_t *out, size_t out_length, uint64_t *dimension);
+                       uint8_t *out, size_t out_length, second_told *told);
 
 /* Receive: r rows to the index of their span. Refuses 1, 2, 3, 10, 13, 4, 6, 8, 9. */
 uint32_t second_receive(uint64_t q, uint64_t n, uint64_t k, uint64_t numbering, uint64_t r,
-                        const uint8_t *rows, size_t rows_length, uint64_t *index, uint64_t *dimension);
+                        const uint8_t *rows, size_t rows_length, uint64_t *index, second_told *told);
 
 /*
  * The second implementation's receiver: the rows that it accepted, r of them. All zeros after a refused start, and in
@@ -79,7 +84,7 @@ uint64_t second_entries(const second_receiver *receiver, uint8_t *entries);
 uint32_t second_take(second_receiver *receiver, const uint8_t *row, size_t length, uint32_t *raised);
 
 /* Close: the index of the list's span. Refuses 10, 8, 9. */
-uint32_t second_close(const second_receiver *receiver, uint64_t numbering, uint64_t *index, uint64_t *dimension);
+uint32_t second_close(const second_receiver *receiver, uint64_t numbering, uint64_t *index, second_told *told);
 
 /* Makes a receiver out of its dimension and its 256 entries. Refuses 14 where no list of rows leads to them. */
 uint32_t second_revive(uint64_t q, uint64_t n, uint64_t k, uint64_t dimension, const uint8_t *entries,

@@ -15,7 +15,9 @@ enum { TRIED_LIMIT = 729 };
 second_space second_span(uint64_t q, uint64_t n, uint64_t r, const uint8_t *rows)
 {
     second_space space = {q, n, 0, {0}};
-    second_reduce(q, n, r, rows, (size_t)(r * n), space.rows, (size_t)(n * n), &space.dimension);
+    second_told told;
+    second_reduce(q, n, r, rows, (size_t)(r * n), space.rows, (size_t)(n * n), &told);
+    space.dimension = told.dimension;
     return space;
 }
 

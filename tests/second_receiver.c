@@ -21,17 +21,19 @@ uint32_t second_start(uint64_t q, uint64_t n, uint64_t k, second_receiver *recei
 
 uint64_t second_entries(const second_receiver *receiver, uint8_t *entries)
 {
-    uint64_t n = receiver->n, dimension;
+    uint64_t n = receiver->n;
+    second_told told;
     memset(entries, 0, MAX_LENGTH * MAX_LENGTH);
     second_reduce(receiver->q, n, receiver->r, receiver->rows, (size_t)(receiver->r * n), entries, (size_t)(n * n),
-                  &dimension);
-    return dimension;
+                  &told);
+    return told.dimension;
 }
 
 uint32_t second_take(second_receiver *receiver, const uint8_t *row, size_t length, uint32_t *raised)
 {
     uint8_t entries[MAX_LENGTH * MAX_LENGTH];
-    uint64_t n = receiver->n, alone;
+    uint64_t n = receiver->n;
+    second_told alone;
     *raised = 0;
     uint32_t refusal = second_reduce(receiver->q, n, 1, row, length, entries, (size_t)(n * n), &alone);
     if (refusal != ACCEPTED)
@@ -43,10 +45,10 @@ uint32_t second_take(second_receiver *receiver, const uint8_t *row, size_t lengt
     return ACCEPTED;
 }
 
-uint32_t second_close(const second_receiver *receiver, uint64_t numbering, uint64_t *index, uint64_t *dimension)
+uint32_t second_close(const second_receiver *receiver, uint64_t numbering, uint64_t *index, second_told *told)
 {
     return second_receive(receiver->q, receiver->n, receiver->k, numbering, receiver->r, receiver->rows,
-                          (size_t)(receiver->r * receiver->n), index, dimension);
+                          (size_t)(receiver->r * receiver->n), index, told);
 }
 
 /* A refusal, with all zeros in the receiver's place. */
@@ -60,13 +62,13 @@ uint32_t second_revive(uint64_t q, uint64_t n, uint64_t k, uint64_t dimension, c
                        second_receiver *receiver)
 {
     uint8_t reduced[MAX_LENGTH * MAX_LENGTH] = {0};
-    uint64_t rank;
+    second_told told;
     if (second_start(q, n, k, receiver) != ACCEPTED || dimension > n)
         return no_receiver(receiver);
     size_t length = (size_t)(dimension * n);
-    if (second_reduce(q, n, dimension, entries, length, reduced, (size_t)(n * n), &rank) != ACCEPTED)
+    if (second_reduce(q, n, dimension, entries, length, reduced, (size_t)(n * n), &told) != ACCEPTED)
         return no_receiver(receiver);
-    if (rank != dimension || memcmp(reduced, entries, sizeof reduced) != 0)
+    if (told.dimension != dimension || memcmp(reduced, entries, sizeof reduced) != 0)
         return no_receiver(receiver);
     memcpy(receiver->rows, entries, length);
     receiver->r = dimension;

@@ -45,11 +45,12 @@ static unsigned find_row(const uint8_t *rows, unsigned n, unsigned r, unsigned s
     return row;
 }
 
-/* Reduces the rows in place. Answers the dimension; the reduced rows stand first. */
-static unsigned reduce_rows(uint64_t q, unsigned n, unsigned r, uint8_t *rows)
+/* Reduces the rows in place; the reduced rows stand first. A column that a row is found for has a pivot. */
+static second_told reduce_rows(uint64_t q, unsigned n, unsigned r, uint8_t *rows)
 {
     const second_field *field = &second_fields[q];
     unsigned rank = 0;
+    uint64_t vector = 0;
     for (unsigned column = 0; column < n && rank < r; column++) {
         unsigned found = find_row(rows, n, r, rank, column);
         if (found == r)
@@ -59,9 +60,10 @@ static unsigned reduce_rows(uint64_t q, unsigned n, unsigned r, uint8_t *rows)
             swap_rows(pivot_row, rows + found * n, n);
         scale_row(field, pivot_row, n, field->inverse[pivot_row[column]]);
         clear_column(field, rows, n, r, rank, column);
+        vector += UINT64_C(1) << (n - column - 1);
         rank++;
     }
-    return rank;
+    return (second_told){rank, vector};
 }
 
 /* Refusals 13, 4 and 6 of a list of rows; if none, the rows are copied for work. */
@@ -79,10 +81,10 @@ static uint32_t take_rows(uint64_t q, uint64_t n, uint64_t r, const uint8_t *row
 }
 
 uint32_t second_reduce(uint64_t q, uint64_t n, uint64_t r, const uint8_t *rows, size_t rows_length,
-                       uint8_t *out, size_t out_length, uint64_t *dimension)
+                       uint8_t *out, size_t out_length, second_told *told)
 {
     uint8_t work[MAX_ROWS * MAX_LENGTH];
-    *dimension = 0;
+    *told = (second_told){0, 0};
     if (!second_is_field(q))
         return REFUSED_FIELD;
     if (n < 1 || n > MAX_LENGTH)
@@ -92,30 +94,28 @@ uint32_t second_reduce(uint64_t q, uint64_t n, uint64_t r, const uint8_t *rows, 
     uint32_t refusal = take_rows(q, n, r, rows, rows_length, work);
     if (refusal != ACCEPTED)
         return refusal;
-    unsigned rank = reduce_rows(q, (unsigned)n, (unsigned)r, work);
+    *told = reduce_rows(q, (unsigned)n, (unsigned)r, work);
     memset(out, 0, out_length);
-    memcpy(out, work, rank * n);
-    *dimension = rank;
+    memcpy(out, work, (size_t)(told->dimension * n));
     return ACCEPTED;
 }
 
 uint32_t second_receive(uint64_t q, uint64_t n, uint64_t k, uint64_t numbering, uint64_t r,
-                        const uint8_t *rows, size_t rows_length, uint64_t *index, uint64_t *dimension)
+                        const uint8_t *rows, size_t rows_length, uint64_t *index, second_told *told)
 {
     uint8_t work[MAX_ROWS * MAX_LENGTH];
     uint64_t count;
     *index = 0;
-    *dimension = 0;
+    *told = (second_told){0, 0};
     uint32_t refusal = second_setting(q, n, k, numbering, &count);
     if (refusal == ACCEPTED)
         refusal = take_rows(q, n, r, rows, rows_length, work);
     if (refusal != ACCEPTED)
         return refusal;
-    unsigned rank = reduce_rows(q, (unsigned)n, (unsigned)r, work);
-    *dimension = rank;
-    if (rank < k)
+    *told = reduce_rows(q, (unsigned)n, (unsigned)r, work);
+    if (told->dimension < k)
         return REFUSED_TOO_FEW;
-    if (rank > k)
+    if (told->dimension > k)
         return REFUSED_TOO_MANY;
     *index = second_index_of(q, n, k, numbering, work);
     return ACCEPTED;

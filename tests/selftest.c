@@ -182,13 +182,46 @@ static void span_group(uint64_t q, uint64_t n)
     uint8_t rows[8 * MAX_LENGTH], reduced[MAX_LENGTH * MAX_LENGTH];
     check_group_begin("spans, q = %" PRIu64 ", n = %" PRIu64, q, n);
     for (unsigned round = 0; round < 300; round++) {
-        uint64_t r = random_below(8), dimension, index;
+        uint64_t r = random_below(8), index;
+        second_told told;
         random_entries(round % 2 ? q : 2, rows, (size_t)(r * n));
-        uint32_t refusals = second_reduce(q, n, r, rows, (size_t)(r * n), reduced, (size_t)(n * n), &dimension);
-        refusals |= second_number(q, n, dimension, EXTENDED, reduced, (size_t)(dimension * n), &index);
+        uint32_t refusals = second_reduce(q, n, r, rows, (size_t)(r * n), reduced, (size_t)(n * n), &told);
+        refusals |= second_number(q, n, told.dimension, EXTENDED, reduced, (size_t)(told.dimension * n), &index);
         mark_span(q, n, r, rows, before);
-        mark_span(q, n, dimension, reduced, after);
+        mark_span(q, n, told.dimension, reduced, after);
         check(refusals == ACCEPTED && memcmp(before, after, sizeof before) == 0, "%" PRIu64 " rows", r);
+    }
+    check_group_end();
+}
+
+/* ---- Identifying vectors ---- */
+
+/* The dimension of the first columns of the rows. */
+static uint64_t leading_dimension(uint64_t q, uint64_t n, uint64_t r, const uint8_t *rows, uint64_t columns)
+{
+    uint8_t part[8 * MAX_LENGTH], reduced[MAX_LENGTH * MAX_LENGTH];
+    second_told told = {0, 0};
+    for (uint64_t row = 0; row < r; row++)
+        memcpy(part + row * columns, rows + row * n, (size_t)columns);
+    if (columns > 0)
+        second_reduce(q, columns, r, part, (size_t)(r * columns), reduced, (size_t)(columns * columns), &told);
+    return told.dimension;
+}
+
+/* A column has a pivot exactly where it adds a dimension to the columns on its left. */
+static void told_vectors_group(uint64_t q)
+{
+    uint8_t rows[8 * MAX_LENGTH], reduced[MAX_LENGTH * MAX_LENGTH];
+    check_group_begin("identifying vectors, q = %" PRIu64, q);
+    for (unsigned round = 0; round < 400; round++) {
+        uint64_t n = 1 + round % MAX_LENGTH, r = random_below(8), vector = 0;
+        second_told told;
+        random_entries(round % 3 ? q : 2, rows, (size_t)(r * n));
+        second_reduce(q, n, r, rows, (size_t)(r * n), reduced, (size_t)(n * n), &told);
+        for (uint64_t column = 0; column < n; column++)
+            vector = 2 * vector + leading_dimension(q, n, r, rows, column + 1) - leading_dimension(q, n, r, rows, column);
+        check(told.vector == vector && vector == second_identifying_vector(n, told.dimension, reduced),
+              "n = %" PRIu64 ", %" PRIu64 " rows: %" PRIu64 " instead of %" PRIu64, n, r, told.vector, vector);
     }
     check_group_end();
 }
@@ -277,7 +310,8 @@ static void order_figures_group(void)
 static void refusals_group(void)
 {
     uint8_t rows[4 * 65] = {1, 1, 0, 2}, out[4];
-    uint64_t index, dimension;
+    uint64_t index;
+    second_told told;
     check_group_begin("refusals");
     check(second_number(2, 2, 2, EXTENDED, rows, 4, &index) == REFUSED_ENTRY, "11/02");
     check(second_number(3, 2, 2, EXTENDED, rows, 4, &index) == REFUSED_UNREDUCED, "11/02, q = 3");
@@ -285,13 +319,13 @@ static void refusals_group(void)
     check(second_draw(2, 2, 2, EXTENDED, 1, rows, 4) == REFUSED_INDEX && rows[3] == 2, "index N");
     check(second_draw(2, 2, 2, EXTENDED, 1, rows, 3) == REFUSED_LENGTH, "length before index");
     check(second_convert(2, 2, 1, 1, 0, 9, &index) == REFUSED_NUMBERING, "numbering before index");
-    check(second_reduce(2, 2, UINT64_MAX, rows, 0, out, 4, &dimension) == REFUSED_ROW_COUNT, "2^64 - 1 rows");
-    check(second_reduce(2, 2, 65, rows, 130, out, 3, &dimension) == REFUSED_ROW_COUNT, "13 before 4");
-    check(second_reduce(2, 2, 2, rows, 4, out, 3, &dimension) == REFUSED_LENGTH, "4 before 6");
-    check(second_receive(3, 2, 1, FERRERS, 2, rows, 4, &index, &dimension) == REFUSED_TOO_MANY, "too many");
-    check(index == 0 && dimension == 2, "dimension of too many");
-    check(second_receive(3, 2, 2, FERRERS, 1, rows, 2, &index, &dimension) == REFUSED_TOO_FEW, "too few");
-    check(index == 0 && dimension == 1, "dimension of too few");
+    check(second_reduce(2, 2, UINT64_MAX, rows, 0, out, 4, &told) == REFUSED_ROW_COUNT, "2^64 - 1 rows");
+    check(second_reduce(2, 2, 65, rows, 130, out, 3, &told) == REFUSED_ROW_COUNT, "13 before 4");
+    check(second_reduce(2, 2, 2, rows, 4, out, 3, &told) == REFUSED_LENGTH, "4 before 6");
+    check(second_receive(3, 2, 1, FERRERS, 2, rows, 4, &index, &told) == REFUSED_TOO_MANY, "too many");
+    check(index == 0 && told.dimension == 2 && told.vector == 3, "dimension and vector of too many");
+    check(second_receive(3, 2, 2, FERRERS, 1, rows, 2, &index, &told) == REFUSED_TOO_FEW, "too few");
+    check(index == 0 && told.dimension == 1 && told.vector == 2, "dimension and vector of too few");
     check_group_end();
 }
 
@@ -316,7 +350,8 @@ static void receiver_figures_group(void)
 {
     uint8_t rows[9], entries[MAX_LENGTH * MAX_LENGTH], expected[MAX_LENGTH * MAX_LENGTH] = {1, 0, 1, 0, 1, 1};
     second_receiver receiver;
-    uint64_t index, dimension;
+    uint64_t index;
+    second_told told;
     uint32_t raised;
     check_group_begin("receiver figures");
     read_rows("110/011/101", rows);
@@ -324,10 +359,11 @@ static void receiver_figures_group(void)
     check(second_start(2, 3, 2, &receiver) == ACCEPTED, "start");
     check(second_take(&receiver, rows, 3, &raised) == ACCEPTED && raised == 1, "110 is raised");
     check(second_take(&receiver, rows, 2, &raised) == REFUSED_LENGTH && raised == 0, "two bytes");
-    check(second_close(&receiver, EXTENDED, &index, &dimension) == REFUSED_TOO_FEW && dimension == 1, "110 alone");
+    check(second_close(&receiver, EXTENDED, &index, &told) == REFUSED_TOO_FEW && told.dimension == 1 && told.vector == 4,
+          "110 alone");
     check(second_take(&receiver, rows + 3, 3, &raised) == ACCEPTED && raised == 1, "011 is raised");
     check(second_take(&receiver, rows + 6, 3, &raised) == ACCEPTED && raised == 0, "101 is held");
-    check(second_close(&receiver, FERRERS, &index, &dimension) == ACCEPTED && index == 3, "the span's index");
+    check(second_close(&receiver, FERRERS, &index, &told) == ACCEPTED && index == 3 && told.vector == 6, "the span's index");
     check(second_entries(&receiver, entries) == 2 && memcmp(entries, expected, sizeof expected) == 0, "the entries");
     check(second_revive(2, 3, 2, 2, entries, &receiver) == ACCEPTED && receiver.r == 2, "the same receiver");
     check(second_revive(2, 3, 2, 1, entries, &receiver) == REFUSED_RECEIVER, "a row too many");
@@ -432,6 +468,8 @@ int main(int argument_count, char **arguments)
     span_group(3, 6);
     span_group(5, 4);
     span_group(7, 4);
+    for (unsigned place = 0; place < FIELD_COUNT; place++)
+        told_vectors_group(second_field_sizes[place]);
     common_group(2, 5);
     common_group(2, 11);
     common_group(3, 7);
