@@ -98,8 +98,9 @@ static void compare_reduce(const list *one)
     harness_answer answer = reduce(one, &out);
     check(refusal == ACCEPTED && answer.refusal == ACCEPTED, "refused %u", answer.refusal);
     check(answer.dimension == told.dimension && answer.vector == told.vector,
-          "q = %" PRIu64 ", n = %" PRIu64 ", %" PRIu64 " rows: dimension %" PRIu64 ", vector %" PRIu64 " instead of %" PRIu64
-          ", %" PRIu64, one->q, one->n, one->r, answer.dimension, answer.vector, told.dimension, told.vector);
+          "q = %" PRIu64 ", n = %" PRIu64 ", %" PRIu64 " rows: dimension %" PRIu64 ", vector %" PRIu64
+          " instead of %" PRIu64 ", %" PRIu64, one->q, one->n, one->r, answer.dimension, answer.vector,
+          told.dimension, told.vector);
     check(memcmp(out.bytes, expected, out_length) == 0,
           "q = %" PRIu64 ", n = %" PRIu64 ", %" PRIu64 " rows: other matrix", one->q, one->n, one->r);
 }
@@ -152,7 +153,8 @@ static void compare_variants(list *one)
     shuffle_rows(one);
     harness_answer after = reduce(one, &second);
     check(before.refusal == ACCEPTED && after.refusal == ACCEPTED && before.dimension == after.dimension &&
-          before.vector == after.vector && memcmp(&first, &second, sizeof first) == 0, "other result after the rows were mixed");
+          before.vector == after.vector && memcmp(&first, &second, sizeof first) == 0,
+          "other result after the rows were mixed");
 }
 
 static void meaning_group(uint64_t q)
@@ -300,7 +302,8 @@ static void round_trip(const setting *s, uint64_t numbering, uint64_t index, con
     second_told told = {rank, second_identifying_vector(s->n, s->k, matrix)};
     if (rank < s->k)
         second_reduce(s->q, s->n, r, one.rows, length_of(&one), drawn, (size_t)(s->n * s->n), &told);
-    bool right = told.dimension == rank && receives(s, numbering, &one, rank == s->k ? ACCEPTED : REFUSED_TOO_FEW, index, told);
+    uint32_t due = rank == s->k ? ACCEPTED : REFUSED_TOO_FEW;
+    bool right = told.dimension == rank && receives(s, numbering, &one, due, index, told);
     check(right, SETTING_FORMAT " in %" PRIu64 ": index %" PRIu64 ", %" PRIu64 " rows of rank %" PRIu64,
           SETTING_VALUES(s), numbering, index, r, rank);
 }

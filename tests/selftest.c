@@ -219,7 +219,8 @@ static void told_vectors_group(uint64_t q)
         random_entries(round % 3 ? q : 2, rows, (size_t)(r * n));
         second_reduce(q, n, r, rows, (size_t)(r * n), reduced, (size_t)(n * n), &told);
         for (uint64_t column = 0; column < n; column++)
-            vector = 2 * vector + leading_dimension(q, n, r, rows, column + 1) - leading_dimension(q, n, r, rows, column);
+            vector = 2 * vector + leading_dimension(q, n, r, rows, column + 1) -
+                     leading_dimension(q, n, r, rows, column);
         check(told.vector == vector && vector == second_identifying_vector(n, told.dimension, reduced),
               "n = %" PRIu64 ", %" PRIu64 " rows: %" PRIu64 " instead of %" PRIu64, n, r, told.vector, vector);
     }
@@ -363,7 +364,8 @@ static void receiver_figures_group(void)
           "110 alone");
     check(second_take(&receiver, rows + 3, 3, &raised) == ACCEPTED && raised == 1, "011 is raised");
     check(second_take(&receiver, rows + 6, 3, &raised) == ACCEPTED && raised == 0, "101 is held");
-    check(second_close(&receiver, FERRERS, &index, &told) == ACCEPTED && index == 3 && told.vector == 6, "the span's index");
+    check(second_close(&receiver, FERRERS, &index, &told) == ACCEPTED && index == 3 && told.vector == 6,
+          "the span's index");
     check(second_entries(&receiver, entries) == 2 && memcmp(entries, expected, sizeof expected) == 0, "the entries");
     check(second_revive(2, 3, 2, 2, entries, &receiver) == ACCEPTED && receiver.r == 2, "the same receiver");
     check(second_revive(2, 3, 2, 1, entries, &receiver) == REFUSED_RECEIVER, "a row too many");

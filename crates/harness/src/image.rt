@@ -88,7 +88,7 @@ pub extern "C" fn harness_take_lent(image: Image, row: &[u8]) -> Step {
     take_step(taken_lent(receiver_of(image), row))
 }
 
-// What Receive and Close answer; done, the index takes the dimension's place.
+// What Receive and Close answer; done, the index and the vector, and no dimension.
 fn received(answer: Received) -> Answer {
     match answer {
         Received::Done(index, space) => Answer {

@@ -8,7 +8,7 @@
 --   Mixed q n rs v        == v is a row of rs, or a linear combination of rows that are Mixed: what reaches a receiver by way of neighbours
 --   rowsOf n k m          == the k rows of the matrix m with n columns
 --   HasDimension q n rs d == there is a reduced matrix of d rows with the same span
---   HasVector q n rs d v  == there is one whose identifying vector is v: column j from the right has a pivot exactly where v has the value 2^(j-1)
+--   HasVector q n rs d v  == there is one whose identifying vector is v; order 2's "true vector" of rows, said by their span
 -- Assumes nothing.
 use mathlib.Core.Path.{_≡_}
 use mathlib.Core.List.{List, [], _∷_}

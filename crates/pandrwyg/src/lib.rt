@@ -98,8 +98,8 @@ fn exported_refusal(q: u64, n: u64, k: u64, t: u64, row_count: u64, rows: &[u8],
 }
 
 // Receive for C: the answer is a lent buffer of eleven bytes, the index, the dimension and the identifying vector, each least byte first.
-// Refuses as Receive does, and 4 if the answer isn't eleven bytes, after the rows' length. 8 and 9 leave index bytes of 0, the dimension and
-// the vector; other refusals leave the answer.
+// Refuses as Receive does, and 4 if the answer isn't eleven bytes, after the rows' length. 8 and 9 leave index bytes of 0, the dimension
+// and the vector; other refusals leave the answer.
 #[no_mangle]
 pub extern "C" fn pandrwyg_receive(
     q: u64,
@@ -118,8 +118,5 @@ pub extern "C" fn pandrwyg_receive(
     if refusal != 0 {
         return refusal;
     }
-    leave(
-        receive::reduced_answer(q, n, k, t, row_count, rows),
-        answer,
-    )
+    leave(receive::reduced_answer(q, n, k, t, row_count, rows), answer)
 }

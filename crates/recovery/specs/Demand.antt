@@ -12,7 +12,8 @@
 --                           identifying vector
 --   told a               == what an answer of Receive or Close tells
 --   littleEndian bytes   == the number that bytes tell, the first byte least: the sum of each times a power of 256
---   read number bytes    == what C reads: the returned number, of the bytes the first eight as a number, the ninth, and the rest as a number
+--   read number bytes    == what C reads: the returned number, and of the bytes the first eight as a number, the ninth, and the rest as a
+--                           number
 --   Answers q n k i rows answer == the rows have a dimension and an identifying vector. The answer is the index i, unrefused, exactly when
 --                           the dimension is k, and 8 if it is fewer; it is never more. The dimension and the vector that are told are the
 --                           true ones

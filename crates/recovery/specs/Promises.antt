@@ -131,7 +131,8 @@ receive-ones q n k t r input =
     let a = receive-accepted q n k t r input z in
     input-reduced q n r input (a .0 .choice .settings .size) (a .0 .sized) (a .1))
 
-pub close-ones : (r : Receiver) → length (r .entries) ≡ 256 → (t : ℕ) → ones (receivedVector (closeOf r t)) ≡ receivedDimension (closeOf r t)
+pub close-ones : (r : Receiver) → length (r .entries) ≡ 256 → (t : ℕ)
+    → ones (receivedVector (closeOf r t)) ≡ receivedDimension (closeOf r t)
 close-ones r size t =
     told-ones (r .q) (r .n) (r .k) t _ (used r) (closeRefusal r t) _ (close-told r t _ refl)
     (λ z. sound r size (close-accepted r t z .formed) .reduced)

@@ -2,9 +2,9 @@
 --   Call        == a call with its arguments; matrices and rows are flat, row by row; t is the numbering; a lent buffer is given as it is
 --                  before the call
 --   answer      == document 01's numbers for the call, by the definitions that the contracts cite: the refusal number (0 for none), then
---                  what the call answers (count; index; dimension, of Pool two; identifying vector; 1 for "raised"), then the receiver and the lent buffers
---                  afterwards; of the list program, all that it writes; of an index, its summands; of the line writer, 1 where the piece
---                  fits, how far the buffer is then filled, and the buffer
+--                  what the call answers (count; index; dimension, of Pool two; identifying vector; 1 for "raised"), then the receiver and
+--                  the lent buffers afterwards; of the list program, all that it writes; of an index, its summands; of the line writer, 1
+--                  where the piece fits, how far the buffer is then filled, and the buffer
 --   Example     == a call and what it must answer
 --   lent size   == a buffer painted with 165s
 --   receiver, image == a receiver by its fields, entries of 0 after the given ones; and back

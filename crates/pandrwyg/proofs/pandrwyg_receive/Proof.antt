@@ -40,8 +40,7 @@ leave-requires c κs =
     let x = c .before .before .before .before .before .before .args in
     let a = exported-accepted _ _ _ _ _ _ _ (unrefused (c .before .before)) in
     let s = a .rows .choice .settings in
-    let d = ap receivedDimension (c .before .reduced-answer .ensures) ∙ space-dimension (x .q) (x .n) (x .k) (x .t) _ _ in
-    (
+    let d = ap receivedDimension (c .before .reduced-answer .ensures) ∙ space-dimension (x .q) (x .n) (x .k) (x .t) _ _ in (
       a .room,
       omega (
         arith,

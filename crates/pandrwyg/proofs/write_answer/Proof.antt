@@ -50,7 +50,9 @@ slice-write-answer-4 : tie.Need-slice-write-answer-4 Inv-loop μ-loop
 slice-write-answer-4 c = simp length-set (omega (arith, c .before .before .before .before .loop .inv .sized))
 
 same-length : tie.Need-same-length Inv-loop μ-loop
-same-length c = simp length-set (c .before .before .before .before .loop .inv .sized ∙ sym (c .before .before .before .before .before .pre .0))
+same-length c =
+    let l = c .before .before .before .before in
+    simp length-set (l .loop .inv .sized ∙ sym (l .before .pre .0))
 
 returns : tie.Need-returns Inv-loop μ-loop
 returns c =

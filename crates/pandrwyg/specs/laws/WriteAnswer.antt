@@ -45,12 +45,13 @@ writing-more index now rest i h w =
     }
 
 -- three bytes more, at the end
-set-three : (now : List ℕ) (d v w : ℕ) → length now ≡ 11 → set (set (set now 8 d) 9 v) 10 w ≡ take 8 now ++ (d ∷ v ∷ w ∷ [])
+set-three : (now : List ℕ) (d v w : ℕ) → length now ≡ answerSize → set (set (set now 8 d) 9 v) 10 w ≡ take 8 now ++ (d ∷ v ∷ w ∷ [])
 set-three now d v w e =
     let one = set now 8 d in
     let two = set one 9 v in
     set-last two 10 w (length-set one 9 v ∙ length-set now 8 d ∙ e)
-    ∙ ap (λ x. x ++ (w ∷ [])) (take-set one 9 v (omega (arith, length-set now 8 d)) ∙ ap (λ x. x ++ (v ∷ [])) (take-set now 8 d (omega arith)))
+    ∙ ap (λ x. x ++ (w ∷ []))
+    (take-set one 9 v (omega (arith, length-set now 8 d)) ∙ ap (λ x. x ++ (v ∷ [])) (take-set now 8 d (omega arith)))
     ∙ append-assoc (take 8 now ++ (d ∷ [])) (v ∷ []) (w ∷ [])
     ∙ append-assoc (take 8 now) (d ∷ []) (v ∷ w ∷ [])
 

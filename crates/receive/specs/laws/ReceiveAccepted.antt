@@ -58,8 +58,7 @@ module _ (q n k t r : ℕ) where
       → RowsAccepted q n k t r (length input) × T (entriesBelow q input)
   unfolding receiveRefusal
   receive-accepted input z =
-      let s = first-zero (rowsRefusal q n k t r (length input)) (refuseUnless (entriesBelow q input) entryRefusal ∷ []) z in
-      (
+      let s = first-zero (rowsRefusal q n k t r (length input)) (refuseUnless (entriesBelow q input) entryRefusal ∷ []) z in (
         rows-accepted (length input) (s .0),
         holds (entriesBelow q input) (test-zero (entriesBelow q input) entryRefusal [] tt (s .1) .0),
       )

@@ -106,8 +106,7 @@ same-length c = search needs
 returns : tie.Need-returns
 returns c =
     let r = c .before .before .before .before .before .before in
-    let a = start r .args in
-    (
+    let a = start r .args in (
       ap₂ (λ (d v : ℕ). record { dimension = d; vector = v }) (told r .0)
           (c .vector-of .ensures ∙ ap₂ (identifying (a .n)) (told r .0) (front r)),
       told r .1 .0,

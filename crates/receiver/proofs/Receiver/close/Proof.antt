@@ -57,7 +57,8 @@ space-answer-requires c κs =
       accepted _ _ _ (s .settings),
       s .reduced,
       ap (λ (v : ℕ). record { dimension = r .dimension; vector = v })
-          (b .before .before .close-refusal .ensures .1 ∙ ap (λ x. pick x (identifying (r .n) (r .dimension) (used r)) 0) (granted b .formed)),
+          (b .before .before .close-refusal .ensures .1
+          ∙ ap (λ x. pick x (identifying (r .n) (r .dimension) (used r)) 0) (granted b .formed)),
     )
 
 returns-2 : tie.Need-returns-2
