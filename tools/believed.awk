@@ -87,6 +87,14 @@ FILENAME ~ /\.rt$/ {
 
 /^ *--/ { next }
 
+# The head of a section, of one line or more; what it has begins after it.
+/^module / { heading = 1 }
+
+heading {
+    if (/ where$/) heading = 0
+    next
+}
+
 name == "" && /^[a-z]/ {
     name = defined($0)
     key = FILENAME SUBSEP name
@@ -137,15 +145,21 @@ function reach(file, what,    p) {
     queue[++tail] = file SUBSEP what
 }
 
+# A name of the roots that the tree does not have fails the walk.
+function missing(kind, place) {
+    print "no such " kind ": " place[1] " " place[2] >"/dev/stderr"
+    status = 1
+}
+
 END {
     for (r in settles) {
         split(r, p, SUBSEP)
-        if (!(r in found)) print "no such theorem: " p[1] " " p[2]
+        if (!(r in found)) missing("theorem", p)
     }
     for (r in root) {
         if (!(r in found)) {
             split(r, p, SUBSEP)
-            print "no such root: " p[1] " " p[2]
+            missing("root", p)
         }
         queue[++tail] = r
         reached[r] = 1
@@ -191,4 +205,5 @@ END {
         for (j = i + 1; j <= names_spared; j++)
             if (told[j] < told[i]) { t = told[i]; told[i] = told[j]; told[j] = t }
     for (i = 1; i <= names_spared; i++) print told[i]
+    exit status
 }
