@@ -1,6 +1,5 @@
 // The receiver: the reduced rows of all rows taken so far, and the settings.
 ghost use mathlib.Core.Path.{_≡_};
-ghost use Prim.Native.Nat.{_≤_};
 ghost use lib.Dec.{ltb};
 ghost use lib.ListN.{length};
 ghost use Rattle.basics.specs.Choice.{pick};

@@ -1,6 +1,5 @@
 -- `pandrwyg::pandrwyg_receive` meets its contract: a refusal leaves the answer, and what is not refused is written to it.
-use mathlib.Core.Path.{_≡_, _∙_, ap, sym, subst}
-use Prim.Native.Nat.{_<_}
+use mathlib.Core.Path.{_≡_, _∙_, ap, sym}
 use native.Mathlib.Omega.{arith}
 use lib.ListN.{length}
 use Rattle.refusal.specs.laws.First.{first-refused, kept, done}

@@ -9,7 +9,6 @@ use Rattle.basics.specs.laws.Replicate.{take-replicate, zeros-lent}
 use Rattle.matrix.specs.Matrix.{Reduced}
 use Rattle.linear.specs.Span.{rowsOf}
 use Rattle.linear.specs.Eliminate.{reducedOf, dimension}
-use Rattle.reduction.specs.Padded.{padded}
 use Rattle.reduce.specs.Reduce.{spaceOf}
 use Rattle.reduce.specs.laws.ReduceRows.{input-reduced, input-fits, input-front}
 use Rattle.receive.specs.Answer.{spaceAnswer}

@@ -4,7 +4,7 @@ use mathlib.Core.Path.{_≡_, ap, ap₂, _∙_, sym, subst}
 use mathlib.Core.List.{List, [], append-nil}
 use Prim.Native.Nat.{ℕ, _*_, _≤_}
 use native.Mathlib.Omega.{arith}
-use lib.ListN.{length, take, length-take}
+use lib.ListN.{take, length-take}
 use Rattle.field.specs.laws.Decide.{laws}
 use Rattle.matrix.specs.laws.Tests.{entries-below}
 use Rattle.matrix.specs.Matrix.{pivot, identifying, Reduced}
