@@ -62,6 +62,32 @@ uint32_t pandrwyg_draw(uint64_t q, uint64_t n, uint64_t k, uint64_t numbering, u
 uint32_t pandrwyg_receive(uint64_t q, uint64_t n, uint64_t k, uint64_t numbering, uint64_t row_count,
                           const uint8_t *rows, size_t rows_length, uint8_t *answer, size_t answer_length);
 
+/* What an answer holds after Receive was done, or was refused 8 or 9; any other refusal leaves it as it was. */
+
+/* The index; 0 with 8 and 9. */
+static inline uint64_t pandrwyg_answer_index(const uint8_t *answer)
+{
+    uint64_t index = 0;
+    for (unsigned place = 8; place-- > 0;)
+        index = index << 8 | answer[place];
+    return index;
+}
+
+/* The dimension of the rows' span. */
+static inline uint8_t pandrwyg_answer_dimension(const uint8_t *answer)
+{
+    return answer[8];
+}
+
+/*
+ * The identifying vector of the rows' span: column j from the right has the value 2^(j-1), and is a one where the span's
+ * reduced matrix has a pivot. It has as many ones as the span has dimensions.
+ */
+static inline uint16_t pandrwyg_answer_vector(const uint8_t *answer)
+{
+    return (uint16_t)(answer[9] + 256u * answer[10]);
+}
+
 /* The calls with null pointers kept out; the macros below put them in the calls' place. They never answer by themselves. */
 
 static inline uint32_t pandrwyg_draw_guarded(uint64_t q, uint64_t n, uint64_t k, uint64_t numbering, uint64_t index,
@@ -89,32 +115,6 @@ static inline uint32_t pandrwyg_receive_guarded(uint64_t q, uint64_t n, uint64_t
     }
     return pandrwyg_receive(q, n, k, numbering, row_count, rows == NULL ? wrong_rows : rows, rows_length,
                             answer == NULL ? wrong_answer : answer, answer_length);
-}
-
-/* What an answer holds after Receive was done, or was refused 8 or 9; any other refusal leaves it as it was. */
-
-/* The index; 0 with 8 and 9. */
-static inline uint64_t pandrwyg_answer_index(const uint8_t *answer)
-{
-    uint64_t index = 0;
-    for (unsigned place = 8; place-- > 0;)
-        index = index << 8 | answer[place];
-    return index;
-}
-
-/* The dimension of the rows' span. */
-static inline uint8_t pandrwyg_answer_dimension(const uint8_t *answer)
-{
-    return answer[8];
-}
-
-/*
- * The identifying vector of the rows' span: column j from the right has the value 2^(j-1), and is a one where the span's
- * reduced matrix has a pivot. It has as many ones as the span has dimensions.
- */
-static inline uint16_t pandrwyg_answer_vector(const uint8_t *answer)
-{
-    return (uint16_t)(answer[9] + 256u * answer[10]);
 }
 
 #define pandrwyg_draw pandrwyg_draw_guarded
