@@ -375,10 +375,10 @@ static void figures_group(void)
     check_group_end();
 }
 
-/* Order 2, over every accepted setting: no rows have the vector 0, and all unit rows have all ones, 2^n - 1. */
+/* Order 2, over every accepted setting: no rows have the vector 0; a multiple of each unit row, all ones, 2^n - 1. */
 static void ends_group(void)
 {
-    check_group_begin("vectors of no rows and of all unit rows");
+    check_group_begin("vectors of no rows and of multiples of all unit rows");
     for (size_t number = 0; number < setting_count; number++) {
         const setting *s = &settings[number];
         list none = {s->q, s->n, 0, {0}}, all = {s->q, s->n, s->n, {0}};
@@ -388,7 +388,7 @@ static void ends_group(void)
         check(receives(s, EXTENDED, &none, s->k == 0 ? ACCEPTED : REFUSED_TOO_FEW, 0, (second_told){0, 0}),
               SETTING_FORMAT ": no rows", SETTING_VALUES(s));
         check(receives(s, FERRERS, &all, s->k == s->n ? ACCEPTED : REFUSED_TOO_MANY, 0, told),
-              SETTING_FORMAT ": all unit rows", SETTING_VALUES(s));
+              SETTING_FORMAT ": multiples of all unit rows", SETTING_VALUES(s));
     }
     check_group_end();
 }
