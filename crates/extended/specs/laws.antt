@@ -5,6 +5,5 @@ pub mod Formula
 pub mod Order
 pub mod Theorems
 pub mod Part
-pub mod ColumnTerm
+pub mod Rank
 pub mod Unrank
-pub mod VectorBits

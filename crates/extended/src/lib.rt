@@ -1,49 +1,45 @@
 // The extended numbering: a reduced matrix to its index, and back.
 ghost use mathlib.Core.Path.{_≡_};
-ghost use Prim.Native.Nat.{_*_, _^_, _%_, _≤_, _<_};
+ghost use Prim.Native.Nat.{_*_, _^_, _%_, _<_, _≤_};
 ghost use lib.Count.{ones};
 ghost use lib.ListN.{length};
 ghost use Rattle.matrix.specs.Matrix.{identifying, Reduced};
 ghost use Rattle.counts.specs.Gaussian.{gaussian};
 ghost use Rattle.settings.specs.laws.Accepted.{Accepted};
-ghost use Rattle.extended.specs.Extended.{extendedTerm, extendedIndex};
+ghost use Rattle.extended.specs.Extended.{extendedIndex};
 ghost use Rattle.extended.specs.Drawn.{drawnExtended};
 
 // An index of the extended numbering; it never stands for a Ferrers index.
 pub struct ExtendedIndex(pub u64);
 
-// The number of ones among the j lowest bits of v: among the columns 1 to j of an identifying vector.
+// The number of ones among the j lowest bits of v: among the columns 1 to j of an identifying vector. The mask is made in 32 bits, so
+// that it can have all 16.
 fn ones_below(v: u16, j: usize) -> usize
-    requires { ⌜ j < 16 ⌝ }
+    requires { ⌜ j ≤ 16 ⌝ }
     ensures { λ r. ⌜ r ≡ ones (v % 2 ^ j) ⌝ }
 {
-    u16::count_ones(v & ((1u16 << j) - 1)) as usize
+    u16::count_ones(v & ((1u32 << j) - 1) as u16) as usize
 }
 
-// What column j from the right adds in formula (5); v is the identifying vector.
-fn column_term(m: &[u8], q: u64, n: usize, k: usize, v: u16, j: usize) -> u64
-    requires { ⌜ Accepted q n k × Reduced q n k (now m) × (v ≡ identifying n k (now m)) × (1 ≤ j) × (j ≤ n) ⌝ }
-    ensures { λ r. ⌜ r ≡ extendedTerm q n k (now (m .entry)) j ⌝ }
-{
-    let w = ones_below(v, j - 1);
-    let rows = k - w;
-    let c = n - j;
-    if matrix::pivot_at(v, j - 1) {
-        return counts::free_count(q, c as u64, rows as u64);
-    }
-    matrix::append_digits(0, m, q, n, c, rows) * counts::coefficient(q, c as u64, rows as u64)
-}
-
-// The extended index of a reduced matrix, by formula (5); v is the identifying vector.
+// The extended index of a reduced matrix, by formula (5), column by column from the right; v is the identifying vector. `rows` is k less
+// document 01's w, which changes at a pivot alone.
 pub fn rank(m: &[u8], q: u64, n: usize, k: usize, v: u16) -> ExtendedIndex
     requires { ⌜ Accepted q n k × Reduced q n k (now m) × (v ≡ identifying n k (now m)) ⌝ }
     ensures { λ r. ⌜ r .0 ≡ extendedIndex q n k (now (m .entry)) ⌝ }
 {
     let mut index: u64 = 0;
-    let mut j = 0;
-    while j < n {
-        j += 1;
-        index += column_term(m, q, n, k, v, j);
+    let mut rows = k;
+    let mut left = n;
+    while left > 0 {
+        let column = left - 1;
+        if matrix::pivot_at(v, n - left) {
+            index += counts::free_count(q, column as u64, rows as u64);
+            rows = k - ones_below(v, n - column);
+        } else {
+            index += matrix::append_digits(0, m, q, n, column, rows)
+                * counts::coefficient(q, column as u64, rows as u64);
+        }
+        left -= 1;
     }
     ExtendedIndex(index)
 }

@@ -81,7 +81,8 @@ fn place_of(m: &[u8], q: u64, n: usize, k: usize, v: u16, total: usize) -> u64
     place
 }
 
-// The tableau of a reduced matrix read as a base-q number, column by column from the right. A pivot's column has no dots.
+// The tableau of a reduced matrix read as a base-q number, column by column from the right. A pivot's column has no dots. Each free
+// column is read by itself, so that its entries do not wait for those of the columns before.
 fn tableau_of(m: &[u8], q: u64, n: usize, k: usize, v: u16) -> u64
     requires { ⌜ Accepted q n k × Reduced q n k (now m) × (v ≡ identifying n k (now m)) ⌝ }
     ensures { λ r. ⌜ r ≡ tableauValue q n k (now (m .entry)) ⌝ }
@@ -93,7 +94,8 @@ fn tableau_of(m: &[u8], q: u64, n: usize, k: usize, v: u16) -> u64
         if matrix::pivot_at(v, n - c) {
             rows -= 1;
         } else {
-            tableau = matrix::append_digits(tableau, m, q, n, c - 1, rows);
+            let column = matrix::append_digits(0, m, q, n, c - 1, rows);
+            tableau = tableau * counts::power(q, rows) + column;
         }
         c -= 1;
     }

@@ -8,7 +8,6 @@ pub mod EchelonRows
 pub mod Residual
 pub mod PutAmong
 pub mod Element
-pub mod Lead
 pub mod Entries
 pub mod RowLead
 pub mod Coefficients

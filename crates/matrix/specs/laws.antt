@@ -2,7 +2,7 @@
 pub mod Tests
 pub mod Lead
 pub mod LeadLoop
-pub mod RowReduced
+pub mod Rows
 pub mod Shape
 pub mod TopValue
 pub mod WriteColumn
@@ -20,7 +20,6 @@ pub mod Vector
 pub mod VectorRows
 pub mod Bits
 pub mod Pivots
-pub mod ReducedVector
 pub mod BitSum
 pub mod VectorOnes
 pub mod Walk

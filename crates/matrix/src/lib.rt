@@ -1,17 +1,14 @@
 // Reduced matrices as bytes, row by row from the top. The functions ask that the matrix has its k×n bytes; the calls above test it.
 ghost use mathlib.Core.Path.{_≡_};
 ghost use mathlib.Core.List.{List};
-ghost use Prim.Native.Nat.{ℕ, suc, _+_, _*_, _-_, _^_, _/_, _%_, _≤_, _<_};
+ghost use Prim.Native.Nat.{ℕ, _+_, _*_, _-_, _^_, _/_, _%_, _≤_, _<_};
 ghost use lib.Count.{trailingZeros};
 ghost use lib.Dec.{eqb};
 ghost use lib.ListN.{length, getD, replicate};
-ghost use Rattle.basics.specs.Choice.{pick};
-ghost use Rattle.matrix.specs.Matrix.{entry, lead as leadOf, pivot, entriesBelow, isReduced, Reduced, identifying as vectorOf};
+ghost use Rattle.matrix.specs.Matrix.{entry, lead as leadOf, pivot, entriesBelow, Reduced, identifying as vectorOf};
 ghost use Rattle.matrix.specs.Shape.{digitAt};
 ghost use Rattle.matrix.specs.laws.Shape.{topValue};
 ghost use Rattle.matrix.specs.laws.WriteColumn.{unitAt, Blank, Written};
-ghost use Rattle.matrix.specs.laws.Tests.{pivotOf};
-ghost use Rattle.matrix.specs.laws.RowReduced.{rowsAbove, rowAbove};
 
 // The place, counted from `start`, of the first nonzero byte among the n bytes from there on; n where there is none.
 pub fn lead(m: &[u8], start: usize, n: usize) -> usize
@@ -46,98 +43,12 @@ pub fn entries_below(m: &[u8], q: u64) -> bool
     (greatest as u64) < q
 }
 
-// Whether column j is zero in every row above row i.
-fn rows_above(m: &[u8], n: usize, i: usize, j: usize) -> bool
-    requires { ⌜ (j < n) × (i * n ≤ length (now m)) ⌝ }
-    ensures { λ r. ⌜ r ≡ rowsAbove n (now (m .entry)) i j ⌝ }
-{
-    let mut a = 0;
-    while a < i {
-        if m[a * n + j] != 0 {
-            return false;
-        }
-        a += 1;
-    }
-    true
-}
-
-// Whether row i, whose pivot is in column p, obeys the four clauses of a reduced matrix, its pivot's column read above it only; `next` is
-// the column of the next row's pivot, n where there is no next row.
-fn row_reduced(m: &[u8], n: usize, k: usize, i: usize, p: usize, next: usize) -> bool
-    requires { ⌜ (i < k) × (k * n ≤ length (now m)) × (next ≡ pivotOf n k (now m) (suc i)) ⌝ }
-    ensures { λ r. ⌜ r ≡ rowAbove n k (now (m .entry)) i p ⌝ }
-{
-    if n <= p {
-        return false;
-    }
-    if m[i * n + p] != 1 {
-        return false;
-    }
-    if next <= p {
-        return false;
-    }
-    rows_above(m, n, i, p)
-}
-
-// The column of row i's pivot; n where there is no row i.
-fn pivot_of(m: &[u8], n: usize, k: usize, i: usize) -> usize
-    requires { ⌜ k * n ≤ length (now m) ⌝ }
-    ensures { λ r. ⌜ r ≡ pivotOf n k (now (m .entry)) i ⌝ }
-{
-    if k <= i {
-        return n;
-    }
-    lead(m, i * n, n)
-}
-
 // The identifying vector v with one more pivot, in column p from the left: column j from the right has the value 2^(j-1).
-fn add_pivot(v: u16, n: usize, p: usize) -> u16
+pub fn add_pivot(v: u16, n: usize, p: usize) -> u16
     requires { ⌜ (n ≤ 16) × (p < n) × (v + 2 ^ (n - 1 - p) < 2 ^ 16) ⌝ }
     ensures { λ r. ⌜ r ≡ v + 2 ^ (n - 1 - p) ⌝ }
 {
     v + (1u16 << (n - 1 - p))
-}
-
-// Whether a matrix is reduced, and its identifying vector; 0 where it is not.
-pub struct Found {
-    pub reduced: bool,
-    pub vector: u16,
-}
-
-// Whether the k rows obey the four clauses of a reduced matrix, and their identifying vector. Each row is tested against the rows above
-// and the next one: below a pivot there are zeros, as the pivots lie farther and farther to the right.
-pub fn reduced_vector(m: &[u8], n: usize, k: usize) -> Found
-    requires { ⌜ (n ≤ 16) × (length (now m) ≡ k * n) ⌝ }
-    ensures { λ r. ⌜ (r .reduced ≡ isReduced n k (now (m .entry)))
-        × (r .vector ≡ pick (isReduced n k (now (m .entry))) (vectorOf n k (now (m .entry))) 0) ⌝ }
-{
-    let mut vector: u16 = 0;
-    let mut p = pivot_of(m, n, k, 0);
-    let mut i = 0;
-    while i < k {
-        let next = pivot_of(m, n, k, i + 1);
-        if !row_reduced(m, n, k, i, p, next) {
-            return Found {
-                reduced: false,
-                vector: 0,
-            };
-        }
-        vector = add_pivot(vector, n, p);
-        p = next;
-        i += 1;
-    }
-    Found {
-        reduced: true,
-        vector,
-    }
-}
-
-// Whether the k rows obey the four clauses of a reduced matrix.
-pub fn is_reduced(m: &[u8], n: usize, k: usize) -> bool
-    requires { ⌜ (n ≤ 16) × (length (now m) ≡ k * n) ⌝ }
-    ensures { λ r. ⌜ r ≡ isReduced n k (now (m .entry)) ⌝ }
-{
-    reduced_vector(m, n, k).reduced
 }
 
 // The last digit of x in base q. A constant divisor in each arm spares the division.

@@ -42,7 +42,7 @@ pub fn choice_refusal(q: u64, n: u64, k: u64, t: u64) -> u32
 }
 
 // The index of a reduced matrix in the numbering t; v is the identifying vector.
-pub fn rank(m: &[u8], q: u64, n: usize, k: usize, t: u64, v: u16) -> Index
+fn rank_in(m: &[u8], q: u64, n: usize, k: usize, t: u64, v: u16) -> Index
     requires { ⌜ Accepted q n k × Reduced q n k (now m) × (v ≡ identifying n k (now m)) ⌝ }
     ensures { λ r. ⌜ r ≡ indexIn t (indexOf q n k t (now (m .entry))) ⌝ }
 {
@@ -50,6 +50,18 @@ pub fn rank(m: &[u8], q: u64, n: usize, k: usize, t: u64, v: u16) -> Index
         return Index::Extended(extended::rank(m, q, n, k, v));
     }
     Index::Ferrers(ferrers::rank(m, q, n, k, v))
+}
+
+// The same, the slice and the index each handed over in its two parts. Copied whole, each would be read back from memory, 16 bytes at once,
+// before its parts are stored there, and that read would wait.
+pub fn rank(m: &[u8], q: u64, n: usize, k: usize, t: u64, v: u16) -> Index
+    requires { ⌜ Accepted q n k × Reduced q n k (now m) × (v ≡ identifying n k (now m)) ⌝ }
+    ensures { λ r. ⌜ r ≡ indexIn t (indexOf q n k t (now (m .entry))) ⌝ }
+{
+    match rank_in(&m[..k * n], q, n, k, t, v) {
+        Index::Extended(index) => Index::Extended(index),
+        Index::Ferrers(index) => Index::Ferrers(index),
+    }
 }
 
 // Writes the reduced matrix with the given index of the numbering t.

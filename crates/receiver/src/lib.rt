@@ -92,20 +92,21 @@ fn well_formed(q: u64, n: u64, k: u64, dimension: u64, entries: &[u8]) -> Formed
         × (r .vector ≡ pick (wellFormed (made q n k dimension (now (entries .entry))))
         (identifying n dimension (used (made q n k dimension (now (entries .entry))))) 0) ⌝ }
 {
-    if settings::settings_refusal(q, n, k) != 0 {
-        return Formed {
-            formed: false,
-            vector: 0,
-        };
-    }
     if n < dimension {
         return Formed {
             formed: false,
             vector: 0,
         };
     }
+    if settings::settings_refusal(q, n, k) != 0 {
+        return Formed {
+            formed: false,
+            vector: 0,
+        };
+    }
     let size = (dimension * n) as usize;
-    if !matrix::entries_below(&entries[..size], q) {
+    let walked = walk::rows(&entries[..size], n as usize, dimension as usize);
+    if walked.oversized(q) {
         return Formed {
             formed: false,
             vector: 0,
@@ -117,10 +118,9 @@ fn well_formed(q: u64, n: u64, k: u64, dimension: u64, entries: &[u8]) -> Formed
             vector: 0,
         };
     }
-    let found = matrix::reduced_vector(&entries[..size], n as usize, dimension as usize);
     Formed {
-        formed: found.reduced,
-        vector: found.vector,
+        formed: walked.reduced,
+        vector: walked.vector,
     }
 }
 

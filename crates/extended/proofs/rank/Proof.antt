@@ -1,68 +1,126 @@
--- `extended::rank` meets its contract: the index is the sum of the terms of the columns passed, so it stays below the count.
-use mathlib.Core.Path.{_≡_, refl, ap, ap₂, _∙_, sym}
-use Prim.Native.Nat.{suc, _+_, _-_, _≤_}
-use native.Mathlib.Numerals.{add-one}
+-- `extended::rank` meets its contract: what the columns passed add up to and the index of the shape that is left make up the index, so it
+-- stays below the count. The ones of the vector among the columns passed are the rows that are gone.
+use mathlib.Core.Path.{_≡_, _∙_, sym}
+use mathlib.Core.Bool.{true, false}
+use mathlib.Core.Logic.{⊎-elim}
+use Prim.Native.Nat.{ℕ, _+_, _*_, _-_, _^_, _≤_}
 use native.Mathlib.Omega.{arith}
-use Rattle.basics.specs.Sum.{sum}
-use Rattle.field.specs.laws.Small.{size-small}
-use Rattle.extended.specs.Extended.{extendedTerm, extendedIndex}
-use Rattle.extended.specs.laws.ColumnTerm.{terms-within}
+use Rattle.matrix.specs.Matrix.{entry}
+use Rattle.matrix.specs.laws.Shape.{topValue}
+use Rattle.counts.specs.Gaussian.{gaussian, greatestCount, tableEntry}
+use Rattle.extended.specs.laws.Rank.{Ranking, ranking-start, ranking-end, ranking-fits, ranking-rows, counts-asked, column-asked}
+use Rattle.extended.specs.laws.Rank.{ranking-pivot, ranking-free}
 use Rattle.extended.proofs.rank.Statement.{statement}
 use Rattle.extended.proofs.rank.Tie as tie
 
 abbrev Inv-loop : tie.InvT-loop
-Inv-loop m q n k v index₀ j₀ index j = (j ≤ n) × (index ≡ sum j (λ i. extendedTerm q n k m (suc i)))
+Inv-loop m q n k v index₀ rows₀ left₀ index rows left = (left ≤ n) × Ranking q n k m left rows index
 
 abbrev μ-loop : tie.MeasureT-loop
-μ-loop m q n k v index₀ j₀ index j = n - j
+μ-loop m q n k v index₀ rows₀ left₀ index rows left = left
 
 loop-holds : tie.Need-loop-holds Inv-loop μ-loop
-unfolding sum
-loop-holds c = (omega arith, refl)
+loop-holds c = (omega arith, ranking-start (c .before .pre .0) (c .before .pre .1))
 
-add-j : tie.Need-add-j Inv-loop μ-loop
-add-j c = omega arith
+sub-column : tie.Need-sub-column Inv-loop μ-loop
+sub-column c = omega arith
 
-column-term-requires : tie.Need-column-term-requires Inv-loop μ-loop
-column-term-requires c κs =
-    let s = c .before .before .before in
-    (s .pre .0, s .pre .1, s .pre .2, omega arith, omega arith)
+sub-pivot-at : tie.Need-sub-pivot-at Inv-loop μ-loop
+sub-pivot-at c = omega arith
 
--- the columns passed, and one more
-stepped : (c : tie.After-column-term Inv-loop μ-loop) →
+pivot-at-requires : tie.Need-pivot-at-requires Inv-loop μ-loop
+pivot-at-requires c κs = omega arith
+
+-- the column that comes next, by its bit of the vector
+pivoted : (c : tie.After-pivot-at Inv-loop μ-loop) (term : ℕ) →
     let l = c .before .before in let a = l .before .before .args in
-    l .loop .index + c .column-term .result ≡ sum (l .loop .j + 1) (λ i. extendedTerm (a .q) (a .n) (a .k) (a .m .now) (suc i))
-unfolding sum
-stepped c =
+    term ≡ a .q ^ l .loop .rows * gaussian (a .q) (l .loop .left - 1) (l .loop .rows) → c .pivot-at .result ≡ true
+    → Ranking (a .q) (a .n) (a .k) (a .m .now) (l .loop .left - 1) (l .loop .rows - 1) (l .loop .index + term)
+pivoted c term e t =
     let l = c .before .before in
-    let a = l .before .before .args in
-    let term = extendedTerm (a .q) (a .n) (a .k) (a .m .now) in
-    ap₂ _+_ (l .loop .inv .1) (c .column-term .ensures ∙ ap term (add-one (l .loop .j)))
-    ∙ ap (λ x. sum x (λ i. term (suc i))) (sym (add-one (l .loop .j)))
+    let s = l .before .before in
+    ranking-pivot (s .pre .0) (c .before .loop-test .taken) (l .loop .inv .1) (s .args .v) (s .pre .2) term e
+    (sym (c .pivot-at .ensures) ∙ t)
+
+freed : (c : tie.After-pivot-at Inv-loop μ-loop) (value each : ℕ) →
+    let l = c .before .before in let a = l .before .before .args in
+    value ≡ 0 * a .q ^ l .loop .rows + topValue (a .q) (entry (a .n) (a .m .now)) (l .loop .rows) (l .loop .left - 1)
+    → each ≡ tableEntry (a .q) (l .loop .left - 1) (l .loop .rows) → c .pivot-at .result ≡ false
+    → Ranking (a .q) (a .n) (a .k) (a .m .now) (l .loop .left - 1) (l .loop .rows) (l .loop .index + value * each)
+freed c value each e f t =
+    let l = c .before .before in
+    let s = l .before .before in
+    ranking-free (s .pre .0) (c .before .loop-test .taken) (l .loop .inv .1) (s .args .v) (s .pre .2) value each e f
+    (sym (c .pivot-at .ensures) ∙ t)
+
+free-count-requires : tie.Need-free-count-requires Inv-loop μ-loop
+free-count-requires c κs =
+    let i = c .before .before in
+    counts-asked (i .before .before .before .pre .0) (i .loop-test .taken) (i .before .loop .inv .1)
 
 add-index : tie.Need-add-index Inv-loop μ-loop
 add-index c =
-    let l = c .before .before in
-    let s = l .before .before in
-    omega (
-      arith,
-      stepped c,
-      terms-within (size-small (s .args .q) (s .pre .0 .size) .0) (s .pre .1) (l .loop .j + 1) (omega arith),
-      s .pre .0 .counted,
-    )
+    let p = c .before .before in
+    let w = pivoted p _ (c .free-count .ensures) (c .before .if1 .taken) in
+    omega (arith, ranking-fits (p .before .before .before .before .pre .0) w)
+
+sub-ones-below : tie.Need-sub-ones-below Inv-loop μ-loop
+sub-ones-below c = omega arith
+
+ones-below-requires : tie.Need-ones-below-requires Inv-loop μ-loop
+ones-below-requires c κs = omega (arith, c .before .before .before .before .before .before .pre .0 .narrow)
+
+sub-rows : tie.Need-sub-rows Inv-loop μ-loop
+sub-rows c =
+    let p = c .before .before .before in
+    let s = p .before .before .before .before in
+    let g = pivoted p _ (c .before .free-count .ensures) (c .before .before .if1 .taken) in
+    ranking-rows g (s .args .v) (s .pre .2) _ (c .ones-below .ensures) .0
+
+append-digits-requires : tie.Need-append-digits-requires Inv-loop μ-loop
+append-digits-requires c κs =
+    let i = c .before .before in
+    column-asked (i .before .before .before .pre .0) (i .loop-test .taken) (i .before .loop .inv .1)
+
+coefficient-requires : tie.Need-coefficient-requires Inv-loop μ-loop
+coefficient-requires c κs =
+    let i = c .before .before .before in
+    let asked = counts-asked (i .before .before .before .pre .0) (i .loop-test .taken) (i .before .loop .inv .1) in
+    (asked .0, omega (arith, asked .1), asked .2)
+
+added : (c : tie.After-coefficient Inv-loop μ-loop) →
+    c .before .before .before .before .before .loop .index + c .before .append-digits .result * c .coefficient .result ≤ greatestCount
+added c =
+    let e = c .before .before in
+    let p = e .before in
+    ranking-fits (p .before .before .before .before .pre .0)
+    (freed p _ _ (c .before .append-digits .ensures) (c .coefficient .ensures) (e .if1 .left))
+
+mul-index : tie.Need-mul-index Inv-loop μ-loop
+mul-index c = omega (arith, added c)
+
+add-index-2 : tie.Need-add-index-2 Inv-loop μ-loop
+add-index-2 c = omega (arith, added c)
+
+sub-left : tie.Need-sub-left Inv-loop μ-loop
+sub-left c = omega arith
 
 loop-less : tie.Need-loop-less Inv-loop μ-loop
 loop-less c = omega arith
 
 loop-again : tie.Need-loop-again Inv-loop μ-loop
-loop-again c = (omega arith, stepped c)
+loop-again c =
+    let s = c .before .before .before .before .before in (
+      omega arith,
+      ⊎-elim
+          (λ w.
+          let g = pivoted (c .before) _ (w .1 .ensures) (w .0 .taken) in
+          rw (w .3, w .4, ranking-rows g (s .args .v) (s .pre .2) _ (w .2 .ensures) .1) g)
+          (λ w. rw (w .3, w .4) (freed (c .before) _ _ (w .1 .ensures) (w .2 .ensures) (w .0 .left))) (c .if1 .came),
+    )
 
 returns : tie.Need-returns Inv-loop μ-loop
-unfolding extendedIndex
-returns c =
-    let a = c .before .before .before .args in
-    let e : c .before .loop .j ≡ a .n = omega arith in
-    c .before .loop .inv .1 ∙ ap (λ x. sum x (λ i. extendedTerm (a .q) (a .n) (a .k) (a .m .now) (suc i))) e
+returns c = ranking-end (omega arith) (c .before .loop .inv .1)
 
 pub rank-spec : {M : Type 1} → statement M
 rank-spec =
@@ -71,9 +129,19 @@ rank-spec =
     Inv-loop
     μ-loop
     loop-holds
-    add-j
-    column-term-requires
+    sub-column
+    sub-pivot-at
+    pivot-at-requires
+    free-count-requires
     add-index
+    sub-ones-below
+    ones-below-requires
+    sub-rows
+    append-digits-requires
+    coefficient-requires
+    mul-index
+    add-index-2
+    sub-left
     loop-less
     loop-again
     returns)

@@ -1,12 +1,11 @@
--- `ferrers::tableau_of` meets its contract: the number read so far, before the tableau of the shape that is left, makes up the whole.
+-- `ferrers::tableau_of` meets its contract: the number read so far, before the tableau of the shape that is left, makes up the whole. A
+-- free column is a number of its own, put after the number read so far.
 use mathlib.Core.Path.{_≡_, _∙_, sym}
 use mathlib.Core.Bool.{true, false}
 use mathlib.Core.Logic.{⊎-elim}
-use Prim.Native.Nat.{_-_, _<_, _≤_}
-use native.Mathlib.Nat.{le-of-lt}
+use Prim.Native.Nat.{_-_, _≤_}
+use native.Mathlib.Nat.{zero-mul, zero-add}
 use native.Mathlib.Omega.{arith}
-use Rattle.field.specs.laws.Small.{size-small}
-use Rattle.ferrers.specs.laws.IndexParts.{parts}
 use Rattle.ferrers.specs.laws.TableauOf.{Reading, ReadColumn, reading-start, reading-pivot, reading-free, reading-end}
 use Rattle.ferrers.proofs.tableau_of.Statement.{statement}
 use Rattle.ferrers.proofs.tableau_of.Tie as tie
@@ -26,9 +25,6 @@ sub-pivot-at c = omega arith
 pivot-at-requires : tie.Need-pivot-at-requires Inv-loop μ-loop
 pivot-at-requires c κs = omega arith
 
-above-zero : (c : tie.After-pivot-at Inv-loop μ-loop) → 0 < c .before .before .before .before .args .q
-above-zero c = let s = c .before .before .before .before in le-of-lt (size-small (s .args .q) (s .pre .0 .size) .0)
-
 -- the column, by its bit of the vector
 pivoted : (c : tie.After-pivot-at Inv-loop μ-loop) → c .pivot-at .result ≡ true →
     let l = c .before .before in let a = l .before .before .args in
@@ -44,7 +40,7 @@ freed : (c : tie.After-pivot-at Inv-loop μ-loop) → c .pivot-at .result ≡ fa
 freed c t =
     let l = c .before .before in
     let s = l .before .before in
-    reading-free (s .args .v) (s .pre .2) (c .before .loop-test .taken) (l .loop .inv .1) (above-zero c) (sym (c .pivot-at .ensures) ∙ t)
+    reading-free (s .args .v) (s .pre .2) (c .before .loop-test .taken) (l .loop .inv .1) (s .pre .0) (sym (c .pivot-at .ensures) ∙ t)
 
 sub-rows : tie.Need-sub-rows Inv-loop μ-loop
 sub-rows c = pivoted (c .before) (c .if1 .taken) .0
@@ -54,9 +50,21 @@ sub-append-digits c = omega arith
 
 append-digits-requires : tie.Need-append-digits-requires Inv-loop μ-loop
 append-digits-requires c κs =
-    let s = c .before .before .before .before .before in
     let r = freed (c .before) (c .if1 .left) in
-    (above-zero (c .before), omega arith, r .long, omega (arith, r .fits, parts (s .pre .0) (s .pre .1) .tableau))
+    (r .positive, omega arith, r .long, rw zero-mul (omega (arith, r .fits)))
+
+power-requires : tie.Need-power-requires Inv-loop μ-loop
+power-requires c κs = let r = freed (c .before .before) (c .before .if1 .left) in (r .size, r .short, r .power)
+
+mul-tableau : tie.Need-mul-tableau Inv-loop μ-loop
+mul-tableau c =
+    let e = c .before .before in
+    rw (c .power .ensures) (omega (arith, freed (e .before) (e .if1 .left) .fits))
+
+add-tableau : tie.Need-add-tableau Inv-loop μ-loop
+add-tableau c =
+    let e = c .before .before in
+    rw (c .power .ensures, c .before .append-digits .ensures, zero-mul, zero-add) (omega (arith, freed (e .before) (e .if1 .left) .fits))
 
 sub-c : tie.Need-sub-c Inv-loop μ-loop
 sub-c c = omega arith
@@ -68,7 +76,7 @@ loop-again : tie.Need-loop-again Inv-loop μ-loop
 loop-again c = (
   omega arith,
   ⊎-elim (λ w. rw (w .1, w .2) (pivoted (c .before) (w .0 .taken) .1))
-      (λ w. rw (w .2, w .3, w .1 .ensures) (freed (c .before) (w .0 .left) .next)) (c .if1 .came),
+      (λ w. rw (w .3, w .4, w .2 .ensures, w .1 .ensures, zero-mul, zero-add) (freed (c .before) (w .0 .left) .next)) (c .if1 .came),
 )
 
 returns : tie.Need-returns Inv-loop μ-loop
@@ -86,6 +94,9 @@ tableau-of-spec =
     sub-rows
     sub-append-digits
     append-digits-requires
+    power-requires
+    mul-tableau
+    add-tableau
     sub-c
     loop-less
     loop-again

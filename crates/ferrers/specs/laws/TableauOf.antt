@@ -2,17 +2,22 @@
 --   Reading q n k m c rows tableau == c columns and `rows` rows are left, and the columns passed read as the number `tableau`
 --   reading-start, -end == nothing is read yet, and all is
 --   reading-pivot   == a pivot's column is passed, of which no entry is in the tableau
---   ReadColumn, reading-free == a free column is read
+--   ReadColumn, reading-free == a free column is a number of its own, put after the number read: its bounds, and the next step
 -- Assumes nothing.
 use mathlib.Core.Path.{_≡_, ap, ap₂, _∙_, sym}
 use mathlib.Core.Bool.{true, false}
 use mathlib.Core.List.{List}
 use Prim.Native.Nat.{ℕ, pred, _+_, _*_, _-_, _^_, _/_, _%_, _<_, _≤_}
-use native.Mathlib.Nat.{zero-add, zero-mul, pow-zero, one-le-pow, le-mul-of-pos-right, mul-le-mul-right}
+use native.Mathlib.Nat.{zero-add, zero-mul, pow-zero, one-le-pow, le-mul-of-pos-right, mul-le-mul-right, le-of-lt, le-trans}
 use native.Mathlib.Omega.{arith}
-use lib.Dec.{eqb}
+use lib.Dec.{T, eqb}
 use lib.ListN.{length}
 use Rattle.basics.specs.laws.Digits.{digits-joined}
+use Rattle.field.specs.Field.{isFieldSize}
+use Rattle.field.specs.laws.Small.{size-small}
+use Rattle.counts.specs.Gaussian.{greatestCount}
+use Rattle.counts.specs.laws.Powers.{power-small}
+use Rattle.settings.specs.laws.Accepted.{Accepted}
 use Rattle.matrix.specs.laws.PeelPlace.{Located, located-start}
 use Rattle.matrix.specs.Matrix.{entry, identifying, Reduced}
 use Rattle.matrix.specs.laws.Peel.{peeled-of}
@@ -20,6 +25,7 @@ use Rattle.matrix.specs.Shape.{Shape, empty}
 use Rattle.matrix.specs.laws.Shape.{topValue}
 use Rattle.matrix.specs.laws.Walk.{walk-pivot, walk-free, walk-end}
 use Rattle.ferrers.specs.Ferrers.{tableauValue}
+use Rattle.ferrers.specs.laws.IndexParts.{parts}
 use Rattle.ferrers.specs.laws.ShapeRank.{shapeSize, shapeTableau}
 use Rattle.ferrers.specs.laws.TableauFormula.{tableau-formula}
 
@@ -49,8 +55,12 @@ read-within a z y total h e = omega (arith, le-mul-of-pos-right a h)
 
 -- the column left of c, whose first `rows` entries are in the tableau
 pub record ReadColumn (q n k : ℕ) (m : List ℕ) (c rows tableau : ℕ) : Type 0 where
+  pub size : T (isFieldSize q)
+  pub positive : 0 < q
   pub long : rows * n ≤ length m
-  pub fits : tableau * q ^ rows + topValue q (entry n m) rows (c - 1) ≤ tableauValue q n k m
+  pub short : rows ≤ 64
+  pub power : q ^ rows ≤ greatestCount
+  pub fits : tableau * q ^ rows + topValue q (entry n m) rows (c - 1) ≤ greatestCount
   pub next : Reading q n k m (c - 1) rows (tableau * q ^ rows + topValue q (entry n m) rows (c - 1))
 
 module _ {q n k c rows tableau : ℕ} {m : List ℕ} (v : ℕ) (is : v ≡ identifying n k m) (some : 0 < c) (w : Reading q n k m c rows tableau)
@@ -74,10 +84,12 @@ module _ {q n k c rows tableau : ℕ} {m : List ℕ} (v : ℕ) (is : v ≡ ident
           },
         )
 
-    pub reading-free : 0 < q → eqb (v / 2 ^ (n - c) % 2) 1 ≡ false → ReadColumn q n k m c rows tableau
+    pub reading-free : Accepted q n k → eqb (v / 2 ^ (n - c) % 2) 1 ≡ false → ReadColumn q n k m c rows tableau
     unfolding shapeSize shapeTableau
-    reading-free positive t =
+    reading-free a t =
         let p = walk-free v is (w .at) some t in
+        let (big, small) = size-small q (a .size) in
+        let few : rows ≤ 16 = omega (arith, w .at .rows, a .dimension, a .narrow) in
         let x : ℕ = topValue q (entry n m) rows (c - 1) in
         let z : ℕ = shapeSize (p .rest) rows in
         let all : (tableau * q ^ rows + x) * q ^ z + shapeTableau q (p .rest) rows ≡ tableauValue q n k m
@@ -86,9 +98,11 @@ module _ {q n k c rows tableau : ℕ} {m : List ℕ} (v : ℕ) (is : v ≡ ident
         ∙ w .whole
         in
         record {
+          size = a .size;
+          positive = le-of-lt big;
           long = omega (arith, w .at .whole .size, mul-le-mul-right n (w .at .rows));
-          fits =
-              read-within (tableau * q ^ rows + x) (q ^ z) (shapeTableau q (p .rest) rows) (tableauValue q n k m) (one-le-pow z q positive)
-              all;
+          short = omega arith;
+          power = power-small q rows small few;
+          fits = le-trans (read-within _ (q ^ z) _ _ (one-le-pow z q (le-of-lt big)) all) (parts a (w .at .whole) .tableau);
           next = record { shape = p .rest; at = p .next; whole = all };
         }

@@ -17,7 +17,7 @@ use lib.Seq.{take-at, drop-at, getD-append-add}
 use Rattle.matrix.specs.Matrix.{entry, pivot}
 use Rattle.linear.specs.Span.{All, none, more, rowsOf}
 use Rattle.linear.specs.Eliminate.{join, leadOf}
-use Rattle.linear.specs.laws.Lead.{lead-same}
+use Rattle.matrix.specs.laws.Lead.{lead-same}
 
 pub rows-length : (n k : ℕ) (m : List ℕ) → length (rowsOf n k m) ≡ k
 unfolding rowsOf

@@ -22,7 +22,7 @@ use Rattle.matrix.specs.Matrix.{lead}
 use Rattle.linear.specs.Span.{All, none, more, Row, rowsOf}
 use Rattle.linear.specs.Eliminate.{join, leadOf}
 use Rattle.linear.specs.laws.Every.{all-at, all-take, all-drop}
-use Rattle.linear.specs.laws.Lead.{lead-same}
+use Rattle.matrix.specs.laws.Lead.{lead-same}
 use Rattle.linear.specs.laws.FlatMatrix.{rows-length}
 
 pub join-append : (rs ss : List (List ℕ)) → join (rs ++ ss) ≡ join rs ++ join ss

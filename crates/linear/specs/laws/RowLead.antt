@@ -17,7 +17,7 @@ use Rattle.linear.specs.Span.{Row}
 use Rattle.linear.specs.Eliminate.{leadOf}
 use Rattle.linear.specs.laws.Scalars.{Scalars}
 use Rattle.linear.specs.laws.Element.{scalars}
-use Rattle.linear.specs.laws.Lead.{lead-le, lead-before, lead-nonzero, lead-unique}
+use Rattle.matrix.specs.laws.Lead.{lead-le, lead-before, lead-nonzero, lead-unique}
 use Rattle.linear.specs.laws.Entries.{at, row-beyond, at-zero, zero-at, one-within}
 
 module _ (q : ℕ) (laws : Laws q) (n : ℕ) where

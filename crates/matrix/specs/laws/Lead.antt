@@ -1,45 +1,74 @@
--- The first place where a row is not 0.
---   lead-is     == a place below n with something else than 0 and with zeros before it is the row's first
---   lead-before == before it there are zeros
+-- The first place where a function is not 0; no part of the meaning.
+--   lead-le      == it is at most n
+--   lead-before  == before it the function is 0
+--   lead-nonzero == at it the function is not 0, if it is below n
+--   lead-unique  == a place with these properties is it
+--   lead-same    == two functions that agree below n have the same
 -- Assumes nothing.
-use mathlib.Core.Path.{_≡_}
+use mathlib.Core.Path.{_≡_, refl, ap, sym, _∙_}
 use mathlib.Core.Bool.{Bool, true, false}
 use mathlib.Core.Logic.{_⊎_, inl, inr}
-use Prim.Native.Nat.{ℕ, zero, suc, _+_, _<_, _≤_, zero-le}
-use native.Mathlib.Nat.{le-refl, eq-or-lt-of-le}
+use Prim.Native.Nat.{ℕ, zero, suc, _+_, _≤_, _<_}
 use native.Mathlib.Omega.{arith}
-use borrow.Author.Tests.{eq-eqb, ne-eqb}
-use lib.Dec.{T, eqb, eqb→eq}
+use borrow.Author.Tests.{eqb-true, eqb-false}
+use lib.Dec.{eqb}
 use Rattle.basics.specs.Choice.{pick}
-use Rattle.matrix.specs.Matrix.{lead, leadFrom}
+use Rattle.basics.specs.laws.Order.{trichotomy, le-or-lt}
+use Rattle.matrix.specs.Matrix.{leadFrom, lead}
 
-module _ (f : ℕ → ℕ) where
-  lead-from-is : (i left p : ℕ) → i ≤ p → p < i + left → ((j : ℕ) → i ≤ j → j < p → f j ≡ 0) → (f p ≡ 0 → ⊥) → leadFrom f i left ≡ p
-  unfolding leadFrom
-  lead-from-is i zero p l b z h = absurd (omega arith)
-  lead-from-is i (suc left) p l b z h = cases (eq-or-lt-of-le l) (lead-from-is (suc i) left p)
-    where
-      cases : (i ≡ p) ⊎ (i < p)
-          → (suc i ≤ p → p < suc i + left → ((j : ℕ) → suc i ≤ j → j < p → f j ≡ 0) → (f p ≡ 0 → ⊥) → leadFrom f (suc i) left ≡ p)
-          → pick (eqb (f i) 0) (leadFrom f (suc i) left) i ≡ p
-      cases (inl e) r = rw (ne-eqb (f i) 0 (λ o. h (rw e at o))) e
-      cases (inr s) r = rw (eq-eqb (f i) 0 (z i (le-refl i) s)) (r s (omega arith) (λ j g k. z j (omega arith) k) h)
+-- what is said of the first place, for a walk that starts at j with `left` places to go
+record First (f : ℕ → ℕ) (j left place : ℕ) : Type 0 where
+  reach : place ≤ j + left
+  start : j ≤ place
+  before : (i : ℕ) → j ≤ i → i < place → f i ≡ 0
+  nonzero : place < j + left → f place ≡ 0 → ⊥
 
-  lead-from-before : (i left j : ℕ) → i ≤ j → j < leadFrom f i left → f j ≡ 0
-  unfolding leadFrom
-  lead-from-before i zero j l b = absurd (omega arith)
-  lead-from-before i (suc left) j l b = cases (eqb (f i) 0) (eqb→eq (f i) 0) (eq-or-lt-of-le l) b (lead-from-before (suc i) left j)
-    where
-      cases : (t : Bool) → (T t → f i ≡ 0) → (i ≡ j) ⊎ (i < j) → j < pick t (leadFrom f (suc i) left) i
-          → (suc i ≤ j → j < leadFrom f (suc i) left → f j ≡ 0) → f j ≡ 0
-      cases true z (inl e) b r = rw e at (z tt)
-      cases true z (inr s) b r = r s b
-      cases false z s b r = absurd (omega arith)
+first : (f : ℕ → ℕ) (j left : ℕ) → First f j left (leadFrom f j left)
+unfolding leadFrom
+first f j zero =
+    record { reach = omega arith; start = omega arith; before = λ i h g. absurd (omega arith); nonzero = λ h. absurd (omega arith) }
+first f j (suc left) = step (eqb (f j) 0) refl (first f (suc j) left)
+  where
+    at-start : eqb (f j) 0 ≡ true → First f (suc j) left (leadFrom f (suc j) left) → (i : ℕ) → j ≤ i → i < leadFrom f (suc j) left
+        → (suc j ≤ i) ⊎ (i < suc j) → f i ≡ 0
+    at-start e h i l g (inl more) = h .before i more g
+    at-start e h i l g (inr less) = ap f (omega arith) ∙ eqb-true (f j) 0 e
 
-  pub lead-is : (n p : ℕ) → p < n → ((j : ℕ) → j < p → f j ≡ 0) → (f p ≡ 0 → ⊥) → lead f n ≡ p
+    step : (b : Bool) → eqb (f j) 0 ≡ b → First f (suc j) left (leadFrom f (suc j) left)
+        → First f j (suc left) (pick b (leadFrom f (suc j) left) j)
+    step true e h =
+        record {
+          reach = omega (arith, h .reach);
+          start = omega (arith, h .start);
+          before = λ i l g. at-start e h i l g (le-or-lt (suc j) i);
+          nonzero = λ l. h .nonzero (omega arith);
+        }
+    step false e h =
+        record { reach = omega arith; start = omega arith; before = λ i l g. absurd (omega arith); nonzero = λ l. eqb-false (f j) 0 e }
+
+module _ (f : ℕ → ℕ) (n : ℕ) where
+  whole : First f 0 n (lead f n)
   unfolding lead
-  lead-is n p b z h = lead-from-is 0 n p zero-le (omega arith) (λ j _ g. z j g) h
+  whole = first f 0 n
 
-  pub lead-before : (n j : ℕ) → j < lead f n → f j ≡ 0
-  unfolding lead
-  lead-before n j b = lead-from-before 0 n j zero-le b
+  pub lead-le : lead f n ≤ n
+  lead-le = omega (arith, whole .reach)
+
+  pub lead-before : (j : ℕ) → j < lead f n → f j ≡ 0
+  lead-before j h = whole .before j (omega arith) h
+
+  pub lead-nonzero : lead f n < n → f (lead f n) ≡ 0 → ⊥
+  lead-nonzero h = whole .nonzero (omega arith)
+
+  pub lead-unique : (place : ℕ) → place ≤ n → ((j : ℕ) → j < place → f j ≡ 0) → (place < n → f place ≡ 0 → ⊥) → lead f n ≡ place
+  lead-unique place h before nonzero = cases (trichotomy (lead f n) place)
+    where
+      cases : (lead f n < place) ⊎ ((lead f n ≡ place) ⊎ (place < lead f n)) → lead f n ≡ place
+      cases (inl less) = absurd (lead-nonzero (omega arith) (before (lead f n) less))
+      cases (inr (inl e)) = e
+      cases (inr (inr more)) = absurd (nonzero (omega (arith, lead-le)) (lead-before place more))
+
+pub lead-same : (f g : ℕ → ℕ) (n : ℕ) → ((j : ℕ) → j < n → f j ≡ g j) → lead f n ≡ lead g n
+lead-same f g n e =
+    lead-unique f n (lead g n) (lead-le g n) (λ j h. e j (omega (arith, lead-le g n)) ∙ lead-before g n j h)
+    (λ h z. lead-nonzero g n h (sym (e (lead g n) h) ∙ z))

@@ -15,7 +15,7 @@ use lib.ListN.{length}
 use Rattle.matrix.specs.Matrix.{entry, lead, Reduced}
 use Rattle.matrix.specs.Shape.{Shape, empty, free, pivot}
 use Rattle.matrix.specs.laws.Shape.{topValue, Peeled, peeled-empty, peeled-free, peeled-pivot}
-use Rattle.matrix.specs.laws.Lead.{lead-is, lead-before}
+use Rattle.matrix.specs.laws.Lead.{lead-unique, lead-before}
 use Rattle.matrix.specs.laws.Corner.{Corner, corner-of-reduced, reduced-of-corner, pivots-rise-far}
 
 -- the corner with one row, or one column, less
@@ -111,7 +111,7 @@ module _ (q N k c : ℕ) (A : ℕ → ℕ → ℕ) (size : 1 < q) (e : lead (A k
 
 -- the pivot's column, peeled, is where the row begins
 pub peeled-lead : (N k c : ℕ) (A : ℕ → ℕ → ℕ) → c < N → A k c ≡ 1 → ((j : ℕ) → j < c → A k j ≡ 0) → lead (A k) N ≡ c
-peeled-lead N k c A b o left = lead-is (A k) N c b left (λ z. omega arith)
+peeled-lead N k c A b o left = lead-unique (A k) N c (omega arith) left (λ h z. omega arith)
 
 pub corner-of-peeled : {q N k c : ℕ} {A : ℕ → ℕ → ℕ} {s : Shape} → 1 < q → c ≤ N → Peeled q A k c s → Corner q N A k c
 corner-of-peeled h b peeled-empty =

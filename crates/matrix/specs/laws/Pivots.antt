@@ -6,7 +6,7 @@
 --   left-start, left-end == all rows are left, and none
 --   Next, left-step    == the lowest set bit of what is left is the last row's pivot, and without it one row less is left
 -- Assumes nothing.
-use mathlib.Core.Path.{_≡_, refl, ap, ap₂, _∙_, sym, subst}
+use mathlib.Core.Path.{_≡_, ap, ap₂, _∙_, sym}
 use mathlib.Core.List.{List}
 use mathlib.Core.Logic.{⊎-elim}
 use Prim.Native.Nat.{ℕ, zero, suc, _+_, _*_, _-_, _^_, _/_, _%_, _<_, _≤_}
@@ -19,7 +19,7 @@ use lib.Seq.{getD-set-same, getD-set-other}
 use Rattle.basics.specs.laws.Order.{same-or-not}
 use Rattle.basics.specs.Sum.{sum}
 use Rattle.matrix.specs.Matrix.{pivot, identifying, Reduced}
-use Rattle.matrix.specs.laws.RowReduced.{rising-far}
+use Rattle.matrix.specs.laws.Rows.{rising-far}
 use Rattle.matrix.specs.laws.Bits.{shifted-one}
 use Rattle.matrix.specs.laws.Vector.{identifying-rows}
 use Rattle.matrix.specs.laws.VectorRows.{rowPower}

@@ -2,13 +2,8 @@
 --   belowTo, below-start, below-more == the test of the first places, one place after the other, by the greatest entry
 --   below-none      == no entry is below 0
 --   entries-below   == every entry is below q exactly where the test holds
---   or-other, or-true, and-true == tests joined
---   Begun, Clauses  == the first three of document 01's four clauses for row i with its pivot in column p, and all four
---   rowTest, test-of, test-true == the tests of the first three, with a test of the column
+--   Clauses         == document 01's four clauses for row i with its pivot in column p
 --   clauses-of, clauses-true == a row's test holds exactly where they do
---   pivotOf n k m i == the column of row i's pivot; n where there is no row i
---   pivot-within    == of a row it is the pivot's
---   reduced-true    == a Reduced matrix passes the test
 --   reduced-exactly == a matrix of the right length with its entries below q is Reduced exactly where isReduced holds
 -- Assumes nothing.
 use mathlib.Core.Path.{_≡_, refl, ap, ap₂, sym, _∙_}
@@ -17,11 +12,10 @@ use mathlib.Core.List.{List}
 use mathlib.Core.Logic.{_↔_, _⊎_, ⊎-elim}
 use Prim.Native.Nat.{ℕ, suc, _*_, _<_, _≤_}
 use native.Mathlib.Omega.{arith}
-use borrow.Author.Tests.{lt-ltb, le-ltb, eq-eqb, ne-eqb, lt-leb, leb-false, eqb-false}
+use borrow.Author.Tests.{lt-ltb, le-ltb, eq-eqb, ne-eqb, leb-false, eqb-false}
 use lib.Dec.{T, eqb, ltb, leb, ltb→lt, eqb→eq, leb→le}
 use lib.ListN.{length, getD}
-use Rattle.basics.specs.Choice.{pick}
-use Rattle.basics.specs.laws.Choice.{holds, is-true}
+use Rattle.basics.specs.laws.Choice.{holds}
 use Rattle.basics.specs.laws.Order.{le-or-lt, same-or-not}
 use Rattle.basics.specs.All.{allBelow}
 use Rattle.basics.specs.laws.All.{allBelow-start, allBelow-at, allBelow-true, allBelow-false}
@@ -69,79 +63,52 @@ below-none m =
     ∙ sym (ne-eqb (length m) 0 ne))
     (same-or-not (length m) 0)
 
-pub or-other : (a b : Bool) → T (a || b) → (T a → ⊥) → T b
+or-other : (a b : Bool) → T (a || b) → (T a → ⊥) → T b
 or-other true b t h = absurd (h tt)
 or-other false b t h = t
 
-pub or-true : (a b : Bool) → (a ≡ false → b ≡ true) → a || b ≡ true
+or-true : (a b : Bool) → (a ≡ false → b ≡ true) → a || b ≡ true
 or-true true b h = refl
 or-true false b h = h refl
 
-pub and-true : (a b : Bool) → a ≡ true → b ≡ true → a && b ≡ true
+and-true : (a b : Bool) → a ≡ true → b ≡ true → a && b ≡ true
 and-true a b p q = ap₂ _&&_ p q
 
--- the first three clauses of row i, whose pivot is in column p
-pub record Begun (n k : ℕ) (m : List ℕ) (i p : ℕ) : Type 0 where
+-- the four clauses of row i, whose pivot is in column p
+pub record Clauses (n k : ℕ) (m : List ℕ) (i p : ℕ) : Type 0 where
   pub no-zero-row : p < n
   pub pivot-one : entry n m i p ≡ 1
   pub pivots-rise : suc i < k → p < pivot n m (suc i)
-
--- all four
-pub record Clauses (n k : ℕ) (m : List ℕ) (i p : ℕ) : Type 0 where
-  pub begun : Begun n k m i p
   pub pivot-alone : (a : ℕ) → a < k → (a ≡ i → ⊥) → entry n m a p ≡ 0
 
--- the tests of the first three, with a test of the column
-abbrev pub rowTest : ℕ → ℕ → List ℕ → ℕ → ℕ → Bool → Bool
-rowTest n k m i p column = ltb p n && (eqb (entry n m i p) 1 && ((leb k (suc i) || ltb p (pivot n m (suc i))) && column))
-
 module _ (n k : ℕ) (m : List ℕ) (i p : ℕ) where
-  pub test-of : (column : Bool) → T (rowTest n k m i p column) → Begun n k m i p × T column
-  test-of column t =
-      let t₁ = and-right (ltb p n) _ t in
-      let t₂ = and-right (eqb (entry n m i p) 1) _ t₁ in (
-        record {
-          no-zero-row = ltb→lt p n (and-left (ltb p n) _ t);
-          pivot-one = eqb→eq (entry n m i p) 1 (and-left (eqb (entry n m i p) 1) _ t₁);
-          pivots-rise =
-              λ h.
-              ltb→lt p (pivot n m (suc i))
-              (or-other (leb k (suc i)) _ (and-left (leb k (suc i) || ltb p (pivot n m (suc i))) _ t₂)
-              (λ l. let g = leb→le k (suc i) l in omega arith));
-        },
-        and-right (leb k (suc i) || ltb p (pivot n m (suc i))) _ t₂,
-      )
-
-  pub test-true : {column : Bool} → Begun n k m i p → column ≡ true → rowTest n k m i p column ≡ true
-  test-true b e =
-      and-true _ _ (lt-ltb p n (b .no-zero-row))
-      (and-true _ _ (eq-eqb (entry n m i p) 1 (b .pivot-one))
-      (and-true _ _ (or-true (leb k (suc i)) _ (λ f. lt-ltb p (pivot n m (suc i)) (b .pivots-rise (leb-false k (suc i) f)))) e))
-
   pub clauses-of : T (rowReduced n k m i p) → Clauses n k m i p
   unfolding rowReduced columnAlone
   clauses-of t =
-      let tested = test-of (columnAlone n k m i p) t in
+      let t₁ = and-right (ltb p n) _ t in
+      let t₂ = and-right (eqb (entry n m i p) 1) _ t₁ in
+      let rises = leb k (suc i) || ltb p (pivot n m (suc i)) in
       record {
-        begun = tested .0;
+        no-zero-row = ltb→lt p n (and-left (ltb p n) _ t);
+        pivot-one = eqb→eq (entry n m i p) 1 (and-left (eqb (entry n m i p) 1) _ t₁);
+        pivots-rise =
+            λ h.
+            ltb→lt p (pivot n m (suc i))
+            (or-other (leb k (suc i)) _ (and-left rises _ t₂) (λ l. let g = leb→le k (suc i) l in omega arith));
         pivot-alone =
             λ a h ne.
             eqb→eq (entry n m a p) 0
-            (or-other (eqb a i) _ (allBelow-at k (λ a. eqb a i || eqb (entry n m a p) 0) (tested .1) a h) (λ e. ne (eqb→eq a i e)));
+            (or-other (eqb a i) _ (allBelow-at k (λ a. eqb a i || eqb (entry n m a p) 0) (and-right rises _ t₂) a h) (λ e. ne (eqb→eq a i e)));
       }
 
   pub clauses-true : Clauses n k m i p → rowReduced n k m i p ≡ true
   unfolding rowReduced columnAlone
   clauses-true c =
-      test-true (c .begun)
+      and-true _ _ (lt-ltb p n (c .no-zero-row))
+      (and-true _ _ (eq-eqb (entry n m i p) 1 (c .pivot-one))
+      (and-true _ _ (or-true (leb k (suc i)) _ (λ f. lt-ltb p (pivot n m (suc i)) (c .pivots-rise (leb-false k (suc i) f))))
       (allBelow-true k (λ a. eqb a i || eqb (entry n m a p) 0)
-      (λ a h. or-true (eqb a i) _ (λ e. eq-eqb (entry n m a p) 0 (c .pivot-alone a h (eqb-false a i e)))))
-
-abbrev pub pivotOf : ℕ → ℕ → List ℕ → ℕ → ℕ
-pivotOf n k m i = pick (leb k i) n (pivot n m i)
-
-pub pivot-within : (n k : ℕ) (m : List ℕ) (i : ℕ) → i < k → pivotOf n k m i ≡ pivot n m i
-pivot-within n k m i h = rw (lt-leb k i h)
+      (λ a h. or-true (eqb a i) _ (λ e. eq-eqb (entry n m a p) 0 (c .pivot-alone a h (eqb-false a i e)))))))
 
 module _ (q n k : ℕ) (m : List ℕ) (sized : length m ≡ k * n) (below : T (entriesBelow q m)) where
   clauses-at : T (isReduced n k m) → (i : ℕ) → i < k → Clauses n k m i (pivot n m i)
@@ -155,9 +122,9 @@ module _ (q n k : ℕ) (m : List ℕ) (sized : length m ≡ k * n) (below : T (e
         record {
           size = sized;
           below = λ place h. entries-below q m below place (rw sized h);
-          no-zero-row = λ i h. clauses-at t i h .begun .no-zero-row;
-          pivot-one = λ i h. clauses-at t i h .begun .pivot-one;
-          pivots-rise = λ i h. clauses-at t i (omega arith) .begun .pivots-rise h;
+          no-zero-row = λ i h. clauses-at t i h .no-zero-row;
+          pivot-one = λ i h. clauses-at t i h .pivot-one;
+          pivots-rise = λ i h. clauses-at t i (omega arith) .pivots-rise h;
           pivot-alone = λ i h a. clauses-at t i h .pivot-alone a;
         },
     λ r.
@@ -166,12 +133,9 @@ module _ (q n k : ℕ) (m : List ℕ) (sized : length m ≡ k * n) (below : T (e
         (λ i h.
         clauses-true n k m i (pivot n m i)
         (record {
-          begun = record { no-zero-row = r .no-zero-row i h; pivot-one = r .pivot-one i h; pivots-rise = r .pivots-rise i };
+          no-zero-row = r .no-zero-row i h;
+          pivot-one = r .pivot-one i h;
+          pivots-rise = r .pivots-rise i;
           pivot-alone = r .pivot-alone i h;
         }))),
   )
-
-pub reduced-true : {q n k : ℕ} {m : List ℕ} → Reduced q n k m → isReduced n k m ≡ true
-reduced-true {q} {n} {k} {m} r =
-    let below = entries-below-true q m (λ place h. r .below place (omega (arith, r .size))) in
-    is-true _ (reduced-exactly q n k m (r .size) (holds _ below) .1 r)

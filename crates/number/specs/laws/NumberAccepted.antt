@@ -1,54 +1,60 @@
--- A Number that is not refused; no part of the meaning.
---   EntriesAccepted  == what none of 1, 2, 3, 10, 4, 6 refuses; entries-accepted == it is so
---   entries-reduced  == where 7 does not either, the matrix is Reduced
+-- A Number that is refused, and one that is not; no part of the meaning.
+--   by-choice, by-length, by-entry, by-form == the tests in their order, the first that fails after those before it
 --   reduced-unrefused == Number refuses no Reduced matrix
+--   number-refused   == what a refused Number answers
 --   number-told      == the number and the index that an answer of Number tells
 -- Assumes nothing.
-use mathlib.Core.Path.{_≡_, refl, ap, _∙_, subst}
-use mathlib.Core.Bool.{true}
-use mathlib.Core.List.{List, [], _∷_}
+use mathlib.Core.Path.{_≡_, refl, ap, _∙_, sym, subst}
+use mathlib.Core.Bool.{true, false}
+use mathlib.Core.List.{List, []}
 use Prim.Native.Nat.{ℕ, _*_, _<_}
-use borrow.Author.Tests.{eq-eqb, eqb-true}
+use native.Mathlib.Omega.{arith}
+use borrow.Author.Tests.{eq-eqb, ne-eqb}
 use lib.Dec.{eqb}
 use lib.ListN.{length}
 use Rattle.basics.specs.laws.Choice.{holds, is-true}
-use Rattle.refusal.specs.Refusal.{refuseUnless, lengthRefusal, entryRefusal, unlessRefused}
-use Rattle.refusal.specs.laws.First.{first-zero, first-passed, test-zero, test-passed, first-none, told-number, told-value}
+use Rattle.refusal.specs.Refusal.{lengthRefusal, entryRefusal, notReducedRefusal, unlessRefused}
+use Rattle.refusal.specs.laws.First.{first-refused, first-passed, test-refused, test-passed, first-none}
+use Rattle.refusal.specs.laws.First.{kept, told-number, told-value}
 use Rattle.matrix.specs.Matrix.{entriesBelow, isReduced, Reduced}
 use Rattle.matrix.specs.laws.Tests.{entries-below-true, reduced-exactly}
 use Rattle.numbering.specs.Numbering.{choiceRefusal, indexOf, indexIn}
-use Rattle.numbering.specs.laws.Chosen.{Chosen, chosen}
 use Rattle.numbering.specs.laws.Either.{typed-value}
 use Rattle.number.specs.Number.{entriesRefusal, numberRefusal, numberOf, answerNumber, answerIndex}
 use Rattle.number.specs.declared.Numbered.{Numbered}
 use Rattle.number.specs.declared.Numbered.the-variants.{Done, Refused}
 
-pub record EntriesAccepted (q n k t : ℕ) (m : List ℕ) : Type 0 where
-  pub choice : Chosen q n k t
-  pub sized : length m ≡ k * n
-  pub below : entriesBelow q m ≡ true
-
 module _ (q n k t : ℕ) (m : List ℕ) where
-  pub entries-accepted : entriesRefusal q n k t m ≡ 0 → EntriesAccepted q n k t m
-  unfolding entriesRefusal
-  entries-accepted e =
-      let last = refuseUnless (entriesBelow q m) entryRefusal ∷ [] in
-      let c = first-zero (choiceRefusal q n k t) (refuseUnless (eqb (length m) (k * n)) lengthRefusal ∷ last) e in
-      let l = test-zero (eqb (length m) (k * n)) lengthRefusal last tt (c .1) in
-      record {
-        choice = chosen q n k t (c .0);
-        sized = eqb-true (length m) (k * n) (l .0);
-        below = test-zero (entriesBelow q m) entryRefusal [] tt (l .1) .0;
-      }
-
-  pub entries-reduced : EntriesAccepted q n k t m → isReduced n k m ≡ true → Reduced q n k m
-  entries-reduced a r = reduced-exactly q n k m (a .sized) (holds (entriesBelow q m) (a .below)) .0 (holds (isReduced n k m) r)
-
-  pub entries-unrefused : choiceRefusal q n k t ≡ 0 → length m ≡ k * n → entriesBelow q m ≡ true → entriesRefusal q n k t m ≡ 0
+  entries-unrefused : choiceRefusal q n k t ≡ 0 → length m ≡ k * n → entriesBelow q m ≡ true → entriesRefusal q n k t m ≡ 0
   unfolding entriesRefusal
   entries-unrefused c l b = first-passed _ _ c ∙ test-passed _ _ _ (eq-eqb (length m) (k * n) l) ∙ test-passed _ _ _ b ∙ first-none
 
-  pub number-unrefused : entriesRefusal q n k t m ≡ 0 → isReduced n k m ≡ true → numberRefusal q n k t m ≡ 0
+  pub by-choice : (choiceRefusal q n k t ≡ 0 → ⊥) → numberRefusal q n k t m ≡ choiceRefusal q n k t
+  unfolding numberRefusal entriesRefusal
+  by-choice z =
+      let e = first-refused (choiceRefusal q n k t) _ z in first-refused _ _ (λ o. z (sym e ∙ o)) ∙ e
+
+  module _ (c : choiceRefusal q n k t ≡ 0) where
+    pub by-length : (length m ≡ k * n → ⊥) → numberRefusal q n k t m ≡ lengthRefusal
+    unfolding numberRefusal entriesRefusal
+    by-length l =
+        let e = first-passed _ _ c ∙ test-refused (eqb (length m) (k * n)) lengthRefusal _ tt (ne-eqb (length m) (k * n) l) in
+        first-refused _ _ (λ o. absurd (omega (arith, e, o))) ∙ e
+
+    module _ (l : length m ≡ k * n) where
+      pub by-entry : entriesBelow q m ≡ false → numberRefusal q n k t m ≡ entryRefusal
+      unfolding numberRefusal entriesRefusal
+      by-entry b =
+          let e =
+          first-passed _ _ c ∙ test-passed _ lengthRefusal _ (eq-eqb (length m) (k * n) l) ∙ test-refused (entriesBelow q m) entryRefusal _ tt b
+          in
+          first-refused _ _ (λ o. absurd (omega (arith, e, o))) ∙ e
+
+      pub by-form : entriesBelow q m ≡ true → isReduced n k m ≡ false → numberRefusal q n k t m ≡ notReducedRefusal
+      unfolding numberRefusal
+      by-form b r = first-passed _ _ (entries-unrefused c l b) ∙ test-refused (isReduced n k m) notReducedRefusal [] tt r
+
+  number-unrefused : entriesRefusal q n k t m ≡ 0 → isReduced n k m ≡ true → numberRefusal q n k t m ≡ 0
   unfolding numberRefusal
   number-unrefused e r = first-passed _ _ e ∙ test-passed _ _ _ r ∙ first-none
 
@@ -67,3 +73,7 @@ module _ (q n k t : ℕ) (m : List ℕ) where
         ap answerIndex e ∙ told-value refusal index (Refused refusal) answerIndex (indexOf q n k t m) (typed-value t (indexOf q n k t m))
             refl,
       )
+
+  pub number-refused : {r : ℕ} → numberRefusal q n k t m ≡ r → (r ≡ 0 → ⊥) → Refused r ≡ numberOf q n k t m
+  unfolding numberOf
+  number-refused {r} e z = ap Refused (sym e) ∙ kept _ _ _ (λ o. z (sym e ∙ o))

@@ -21,7 +21,7 @@ use Rattle.linear.specs.laws.FlatMatrix.{rows-length, join-length}
 use Rattle.linear.specs.laws.FlatRows.{lead-part, join-taken}
 use Rattle.linear.specs.laws.InsertSteps.{residue-row, insertRow-zero, insertRow-other, monic-lead}
 use Rattle.linear.specs.laws.InsertMany.{Kept, insert-kept}
-use Rattle.linear.specs.laws.Lead.{lead-before}
+use Rattle.matrix.specs.laws.Lead.{lead-before}
 use Rattle.linear.specs.laws.ReducedRows.{rows-sized}
 use Rattle.linear.specs.laws.RowLead.{leadOf-le}
 use Rattle.reduction.specs.Padded.{padded}

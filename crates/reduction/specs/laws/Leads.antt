@@ -26,7 +26,7 @@ use Rattle.linear.specs.Eliminate.{leadOf, eliminate, putAmong, join}
 use Rattle.linear.specs.laws.Element.{scalars}
 use Rattle.linear.specs.laws.Elimination.{eliminate-row, eliminate-takes}
 use Rattle.linear.specs.laws.Entries.{at, zero-at, at-zero}
-use Rattle.linear.specs.laws.Lead.{lead-unique}
+use Rattle.matrix.specs.laws.Lead.{lead-unique}
 use Rattle.linear.specs.laws.Residual.{takenOff-kept}
 use Rattle.linear.specs.laws.RowLead.{leadOf-le, at-before, at-lead-nonzero}
 use Rattle.rows.specs.laws.Steps.{part, raised}

@@ -7,9 +7,8 @@ use native.Mathlib.Nat.{min-eq-left}
 use native.Mathlib.Omega.{arith}
 use lib.ListN.{length, take, drop, replicate, length-take, length-append}
 use lib.Seq.{take-at}
-use Rattle.basics.specs.Choice.{pick}
-use Rattle.matrix.specs.Matrix.{identifying, Reduced}
-use Rattle.matrix.specs.laws.Tests.{reduced-true}
+use Rattle.matrix.specs.Matrix.{Reduced}
+use Rattle.walk.specs.laws.Whole.{reduced-vector}
 use Rattle.extended.specs.Drawn.{drawnExtended}
 use Rattle.ferrers.specs.Ferrers.{ferrersIndex}
 use Rattle.text.specs.Text.{comma, lineFeed, numeral}
@@ -117,16 +116,16 @@ array-share-prefix-entries : tie.Need-array-share-prefix-entries
 unfolding zeros
 array-share-prefix-entries c = rw (length-append _ (drop _ zeros)) (omega (arith, filled (c .before)))
 
-slice-aggregate-reduced-vector : tie.Need-slice-aggregate-reduced-vector
+slice-aggregate-rows : tie.Need-slice-aggregate-rows
 unfolding zeros
-slice-aggregate-reduced-vector c = sized (c .before .before)
+slice-aggregate-rows c = sized (c .before .before)
 
-reduced-vector-requires : tie.Need-reduced-vector-requires
+rows-requires : tie.Need-rows-requires
 unfolding zeros
-reduced-vector-requires c κs =
+rows-requires c κs =
     let f = c .before .before in
     let s = f .before .before .before in
-    (s .pre .0 .settings .narrow, reduced f .size)
+    (s .pre .0 .settings .narrow, omega (arith, reduced f .size))
 
 array-share-prefix-entries-2 : tie.Need-array-share-prefix-entries-2
 unfolding zeros
@@ -143,7 +142,10 @@ rank-requires c κs =
     let f = v .before .before .before in
     let a = f .before .before .before .args in
     let m = take (a .k * a .n) (f .unrank .last .0 ++ drop (a .k * a .n) zeros) in
-    let told = v .reduced-vector .ensures .1 ∙ ap (λ b. pick b (identifying (a .n) (a .k) m) 0) (reduced-true (reduced f)) in
+    let narrow = f .before .before .before .pre .0 .settings .narrow in
+    let told =
+    ap (λ w. w .vector) (v .rows .ensures)
+    ∙ reduced-vector 32 (a .q) (a .n) (a .k) m (omega (arith, narrow)) (reduced f) in
     (f .before .before .before .pre .0 .settings, reduced f, told)
 
 put-space-requires : tie.Need-put-space-requires
@@ -180,8 +182,8 @@ write-space-spec =
     slice-aggregate-unrank
     unrank-requires
     array-share-prefix-entries
-    slice-aggregate-reduced-vector
-    reduced-vector-requires
+    slice-aggregate-rows
+    rows-requires
     array-share-prefix-entries-2
     slice-aggregate-rank
     rank-requires
