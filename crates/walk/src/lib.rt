@@ -126,8 +126,7 @@ impl Walk {
     }
 }
 
-// Reads row i, its entries from the left. That there are at most 16 is said twice, so that the compiler knows it too: it then reads a row in
-// two steps.
+// Reads row i, its entries from the left.
 fn read_row(m: &[u8], n: usize, i: usize) -> Row
     requires { ⌜ (n ≤ 16) × (i * n + n ≤ length (now m)) ⌝ }
     ensures { λ r. ⌜ r ≡ rowRead n (now (m .entry)) i n ⌝ }
@@ -138,7 +137,7 @@ fn read_row(m: &[u8], n: usize, i: usize) -> Row
         code: 0,
     };
     let mut j = 0;
-    while j < n && j < 16 {
+    while j < n {
         row = row.enter(m[i * n + j]);
         j += 1;
     }

@@ -3,7 +3,6 @@ use mathlib.Core.Path.{_≡_, refl, _∙_, ap}
 use Prim.Native.Nat.{_-_, _≤_}
 use native.Mathlib.Numerals.{add-one}
 use native.Mathlib.Omega.{arith}
-use borrow.Author.Tests.{ltb-false}
 use Rattle.matrix.specs.Matrix.{entry}
 use Rattle.walk.specs.Walk.{entered, rowRead}
 use Rattle.walk.specs.laws.RowRead.{row-read, read-room}
@@ -31,7 +30,7 @@ shared-slice-read-enter c = omega arith
 
 enter-requires : tie.Need-enter-requires Inv-loop μ-loop
 enter-requires c κs =
-    let l = c .before .before .before in
+    let l = c .before .before in
     let a = l .before .before .args in
     rw (l .loop .inv .1) (read-room (row-read (a .n) (a .m .now) (a .i) (l .loop .j)) (omega arith))
 
@@ -44,16 +43,12 @@ loop-less c = omega arith
 loop-again : tie.Need-loop-again Inv-loop μ-loop
 unfolding rowRead
 loop-again c =
-    let l = c .before .before .before .before in
+    let l = c .before .before .before in
     let a = l .before .before .args in
     (omega arith, rw add-one (c .enter .ensures ∙ ap (λ r. entered r (entry (a .n) (a .m .now) (a .i) (l .loop .j))) (l .loop .inv .1)))
 
--- a row has at most 16 entries
 returns : tie.Need-returns Inv-loop μ-loop
-returns c = absurd (omega (arith, ltb-false (c .before .before .loop .j) 16 (c .if1 .left)))
-
-returns-2 : tie.Need-returns-2 Inv-loop μ-loop
-returns-2 c =
+returns c =
     let l = c .before in
     let a = l .before .before .args in
     l .loop .inv .1 ∙ ap (rowRead (a .n) (a .m .now) (a .i)) (omega arith)
@@ -72,5 +67,4 @@ read-row-spec =
     add-j
     loop-less
     loop-again
-    returns
-    returns-2)
+    returns)

@@ -1,6 +1,7 @@
 -- What the walk knows after each whole row; no part of the meaning.
 --   Least n m i p      == p is the least column to the right of the pivots of the first i rows
 --   After n m i w      == w is what is known of the first i rows of m
+--   same-test          == two tests that hold alike are equal
 --   extends-exactly    == the next row extends them exactly where one row more is reduced
 --   walked-after       == the walk over the first i rows knows this
 -- Assumes nothing.
@@ -49,7 +50,7 @@ no-bit : (b : Bool) → bit b ≡ 0 → b ≡ false
 no-bit true e = absurd (omega arith)
 no-bit false e = refl
 
-same-test : (a b : Bool) → (a ≡ true → b ≡ true) → (b ≡ true → a ≡ true) → a ≡ b
+pub same-test : (a b : Bool) → (a ≡ true → b ≡ true) → (b ≡ true → a ≡ true) → a ≡ b
 same-test true b f g = sym (f refl)
 same-test false true f g = g refl
 same-test false false f g = refl

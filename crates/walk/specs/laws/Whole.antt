@@ -21,12 +21,8 @@ use Rattle.matrix.specs.Matrix.{Reduced, isReduced, identifying, entriesBelow}
 use Rattle.matrix.specs.laws.Tests.{entries-below, entries-below-true, reduced-exactly}
 use Rattle.walk.specs.Walk.{walked, oversized}
 use Rattle.walk.specs.Tells.{Oversized, Tells}
+use Rattle.walk.specs.laws.After.{same-test}
 use Rattle.walk.specs.laws.Tells.{walk-tells}
-
-same-test : (a b : Bool) → (T a → T b) → (T b → T a) → a ≡ b
-same-test true b f g = sym (is-true b (f tt))
-same-test false true f g = absurd (g tt)
-same-test false false f g = refl
 
 other-test : (a b : Bool) → (T a → T b → ⊥) → ((T b → ⊥) → T a) → a ≡ not b
 other-test true true f g = absurd (f tt tt)
@@ -61,7 +57,9 @@ module _ (width q n k : ℕ) (m : List ℕ) (narrow : 2 * n ≤ width) (sized : 
       let below = holds _ e in
       let rows = told .rows (none-oversized below) in
       let exactly = reduced-exactly q n k m sized below in
-      same-test (walked width n m k .reduced) (isReduced n k m) (λ t. exactly .1 (subst (Reduced q n k) whole (rows .0 t))) (λ t. rows .1 (subst (Reduced q n k) (sym whole) (exactly .0 t)))
+      same-test (walked width n m k .reduced) (isReduced n k m)
+      (λ t. is-true _ (exactly .1 (subst (Reduced q n k) whole (rows .0 (holds _ t)))))
+      (λ t. is-true _ (rows .1 (subst (Reduced q n k) (sym whole) (exactly .0 (holds _ t)))))
 
   pub whole-vector : entriesBelow q m ≡ true → walked width n m k .vector ≡ pick (isReduced n k m) (identifying n k m) 0
   whole-vector e = cases (isReduced n k m) refl
