@@ -185,6 +185,17 @@ bool plain_pivots(unsigned n, unsigned k, const uint8_t *matrix, uint8_t *pivots
     return pivots_alone(n, k, matrix, pivots);
 }
 
+/* The pivots of a matrix that is known to be reduced. */
+static void find_pivots(unsigned n, unsigned k, const uint8_t *matrix, uint8_t *pivots)
+{
+    unsigned column = 0;
+    for (unsigned row = 0; row < k; row++) {
+        while (matrix[row * n + column] == 0)
+            column++;
+        pivots[row] = (uint8_t)column++;
+    }
+}
+
 /* ---- Calls ---- */
 
 uint32_t plain_setting(uint64_t q, uint64_t n, uint64_t k)
@@ -257,7 +268,7 @@ plain_answer plain_number(uint64_t q, uint64_t n, uint64_t k, uint64_t numbering
 
 plain_answer plain_convert(uint64_t q, uint64_t n, uint64_t k, uint64_t from, uint64_t to, uint64_t index)
 {
-    uint8_t matrix[PLAIN_ENTRIES];
+    uint8_t matrix[PLAIN_ENTRIES], pivots[PLAIN_LENGTH];
     uint32_t refusal = plain_choice(q, n, k, from);
     if (refusal == PLAIN_DONE)
         refusal = plain_choice(q, n, k, to);
@@ -266,5 +277,6 @@ plain_answer plain_convert(uint64_t q, uint64_t n, uint64_t k, uint64_t from, ui
     if (index >= plain_gaussian[q][n][k])
         return (plain_answer){PLAIN_NO_INDEX, 0, 0, 0};
     draw(q, (unsigned)n, (unsigned)k, from, index, matrix);
-    return plain_number(q, n, k, to, matrix, (size_t)(k * n));
+    find_pivots((unsigned)n, (unsigned)k, matrix, pivots);
+    return (plain_answer){PLAIN_DONE, plain_index(q, (unsigned)n, (unsigned)k, to, matrix, pivots), 0, 0};
 }

@@ -13,6 +13,7 @@ pub mod Digits
 pub mod TableValue
 pub mod SumLaws
 pub mod SumMore
+pub mod Once
 pub mod LookUp
 pub mod Lexicographic
 pub mod LexicographicRest

@@ -46,12 +46,14 @@ pub fn rank(m: &[u8], q: u64, n: usize, k: usize, v: u16) -> ExtendedIndex
 
 // Writes the reduced matrix with the given extended index, column by column from the right. Of the matrices of `rows` rows and as many
 // columns as are left, `rest` is the index of the one to write. The first `free` of them have no pivot in the last column, `each` for
-// each value of that column.
-pub fn unrank(m: &mut [u8], q: u64, n: usize, k: usize, index: ExtendedIndex)
+// each value of that column. Answers the matrix's identifying vector, whose bits come with the columns.
+pub fn unrank(m: &mut [u8], q: u64, n: usize, k: usize, index: ExtendedIndex) -> u16
     requires { ⌜ Accepted q n k × (index .0 < gaussian q n k) × (length (now m) ≡ k * n) ⌝ }
     ensures { λ _. ⌜ now (m .exit) ≡ drawnExtended q n k (index .0) ⌝ }
+    ensures { λ r. ⌜ r ≡ identifying n k (drawnExtended q n k (index .0)) ⌝ }
 {
     matrix::clear(m);
+    let mut v: u16 = 0;
     let mut rest = index.0;
     let mut rows = k;
     let mut columns = n;
@@ -65,9 +67,11 @@ pub fn unrank(m: &mut [u8], q: u64, n: usize, k: usize, index: ExtendedIndex)
             matrix::write_digits(m, q, n, k, c, rows, value);
         } else {
             matrix::write_pivot(m, n, k, c, rows - 1);
+            v = matrix::add_pivot(v, n, c);
             rest = rest - free;
             rows = rows - 1;
         }
         columns = c;
     }
+    v
 }

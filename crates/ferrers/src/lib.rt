@@ -157,7 +157,7 @@ fn vector_at(n: usize, k: usize, size: usize, place: u64) -> u16
         if earlier < free {
             dots -= rows;
         } else {
-            v += 1u16 << (n - columns);
+            v = matrix::add_pivot(v, n, c);
             earlier -= free;
             rows -= 1;
         }
@@ -187,13 +187,15 @@ fn draw(m: &mut [u8], q: u64, n: usize, k: usize, v: u16, tableau: u64)
     }
 }
 
-// Writes the reduced matrix with the given Ferrers index.
-pub fn unrank(m: &mut [u8], q: u64, n: usize, k: usize, index: FerrersIndex)
+// Writes the reduced matrix with the given Ferrers index, and answers its identifying vector.
+pub fn unrank(m: &mut [u8], q: u64, n: usize, k: usize, index: FerrersIndex) -> u16
     requires { ⌜ Accepted q n k × (index .0 < gaussian q n k) × (length (now m) ≡ k * n) ⌝ }
     ensures { λ _. ⌜ now (m .exit) ≡ drawnFerrers q n k (index .0) ⌝ }
+    ensures { λ r. ⌜ r ≡ identifying n k (drawnFerrers q n k (index .0)) ⌝ }
 {
     let found = find_size(q, n, k, index.0);
     let base = counts::power(q, found.size);
     let v = vector_at(n, k, found.size, found.rest / base);
     draw(m, q, n, k, v, found.rest % base);
+    v
 }

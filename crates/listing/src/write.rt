@@ -51,9 +51,8 @@ fn write_space(buffer: &mut [u8], q: u64, n: u64, k: u64, index: ExtendedIndex) 
 {
     let mut entries = [0u8; 256];
     let size = (k * n) as usize;
-    extended::unrank(&mut entries[..size], q, n as usize, k as usize, index);
-    let walked = walk::rows(&entries[..size], n as usize, k as usize);
-    let ferrers = ferrers::rank(&entries[..size], q, n as usize, k as usize, walked.vector);
+    let vector = extended::unrank(&mut entries[..size], q, n as usize, k as usize, index);
+    let ferrers = ferrers::rank(&entries[..size], q, n as usize, k as usize, vector);
     let rows = Rows {
         entries,
         n: n as usize,

@@ -17,6 +17,7 @@ pub mod Column
 pub mod DrawColumns
 pub mod Values
 pub mod Vector
+pub mod Passed
 pub mod VectorRows
 pub mod Bits
 pub mod Pivots

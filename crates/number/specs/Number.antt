@@ -2,6 +2,7 @@
 -- isn't reduced."
 --   entriesRefusal == the refusals before 7
 --   numberRefusal  == all of them; 0 where none applies
+--   answerOf r t i == what Number and Convert answer: the index i of the numbering t, or the refusal r where it is one
 --   numberOf       == what Number answers
 --   answerNumber, answerIndex == document 01's refusal number and index of each case of an answer
 -- Assumes nothing.
@@ -26,8 +27,11 @@ entriesRefusal q n k t m =
 unfoldable pub numberRefusal : ℕ → ℕ → ℕ → ℕ → List ℕ → ℕ
 numberRefusal q n k t m = first (entriesRefusal q n k t m ∷ refuseUnless (isReduced n k m) notReducedRefusal ∷ [])
 
+abbrev pub answerOf : ℕ → ℕ → ℕ → Numbered
+answerOf refusal t i = unlessRefused refusal (Done (indexIn t i)) (Refused refusal)
+
 unfoldable pub numberOf : ℕ → ℕ → ℕ → ℕ → List ℕ → Numbered
-numberOf q n k t m = unlessRefused (numberRefusal q n k t m) (Done (indexIn t (indexOf q n k t m))) (Refused (numberRefusal q n k t m))
+numberOf q n k t m = answerOf (numberRefusal q n k t m) t (indexOf q n k t m)
 
 abbrev pub answerNumber : Numbered → ℕ
 answerNumber (Done i) = 0

@@ -64,14 +64,14 @@ pub fn rank(m: &[u8], q: u64, n: usize, k: usize, t: u64, v: u16) -> Index
     }
 }
 
-// Writes the reduced matrix with the given index of the numbering t.
-pub fn unrank(m: &mut [u8], q: u64, n: usize, k: usize, t: u64, index: u64)
+// Writes the reduced matrix with the given index of the numbering t, and answers its identifying vector.
+pub fn unrank(m: &mut [u8], q: u64, n: usize, k: usize, t: u64, index: u64) -> u16
     requires { ⌜ Accepted q n k × (index < gaussian q n k) × (length (now m) ≡ k * n) ⌝ }
     ensures { λ _. ⌜ now (m .exit) ≡ drawn q n k t index ⌝ }
+    ensures { λ r. ⌜ r ≡ identifying n k (drawn q n k t index) ⌝ }
 {
     if t == EXTENDED {
-        extended::unrank(m, q, n, k, ExtendedIndex(index));
-    } else {
-        ferrers::unrank(m, q, n, k, FerrersIndex(index));
+        return extended::unrank(m, q, n, k, ExtendedIndex(index));
     }
+    ferrers::unrank(m, q, n, k, FerrersIndex(index))
 }

@@ -1,7 +1,8 @@
 -- What Receive answers C for every input, and what it leaves in the lent answer. Document 01: "These return the refusal number, 0 for done.
 -- Receive's answer is a lent buffer of nine bytes: the index, least byte first, then the dimension. A wrong length there is 4, tested after
 -- the input's. On 8 and 9 the index bytes are 0 and the ninth is the dimension; any other refusal leaves the nine bytes unchanged."
--- Order 2: "The C answer of Receive becomes eleven bytes, the vector last, least byte first; demand 1's exception for 8 and 9 covers it too."
+-- Order 2: "The C answer of Receive becomes eleven bytes, the vector last, least byte first; demand 1's exception for 8 and 9 covers it
+-- too."
 --   answerSize       == eleven
 --   bytesOf size x   == the number x in so many bytes, least first
 --   answerBytes i d v == the eleven bytes: the index i in eight, the dimension d in one, the identifying vector v in two

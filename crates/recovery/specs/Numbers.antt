@@ -2,8 +2,8 @@
 -- Ferrers index that Silberstein and Etzion define, and an index below the count gets the matrix with that index. Received rows are
 -- numbered by the one reduced matrix that spans the same space."
 --   Numbers q n k t    == Number of a reduced matrix is its index by the numbering's formula; Draw of that index leaves the matrix; Number
---                         of what Draw leaves is the index; Convert of a reduced matrix's index is its index in the other numbering, never
---                         15; and Receive, its C form and Close answer for rows as `spaceAnswer` for the reduced matrix with their span
+--                         of what Draw leaves is the index; Convert of a reduced matrix's index is its index in the other numbering; and
+--                         Receive, its C form and Close answer for rows as `spaceAnswer` for the reduced matrix with their span
 --   demand-2           == it holds for all settings and numberings that are accepted
 --   demand-2-flat      == the same without a record, under the user's words
 -- Assumes nothing.
@@ -12,7 +12,6 @@ use mathlib.Core.Bool.{true}
 use mathlib.Core.List.{List}
 use Prim.Native.Nat.{ℕ, _*_, _≤_, _<_}
 use lib.ListN.{length}
-use Rattle.refusal.specs.laws.First.{done}
 use Rattle.counts.specs.Gaussian.{gaussian}
 use Rattle.settings.specs.Settings.{settingsRefusal}
 use Rattle.matrix.specs.Matrix.{Reduced}
@@ -25,9 +24,9 @@ use Rattle.numbering.specs.laws.Either.{Orderly, either}
 use Rattle.draw.specs.Draw.{drawBuffer}
 use Rattle.number.specs.Number.{numberOf}
 use Rattle.number.specs.declared.Numbered.the-variants.{Done}
-use Rattle.number.specs.laws.NumberAccepted.{reduced-unrefused}
-use Rattle.convert.specs.Convert.{counterpart, convertOf}
-use Rattle.convert.specs.laws.ConvertAccepted.{convert-unrefused}
+use Rattle.number.specs.laws.NumberAccepted.{reduced-numbered}
+use Rattle.convert.specs.Convert.{convertOf}
+use Rattle.convert.specs.laws.ConvertAccepted.{convert-unrefused, convert-done}
 use Rattle.reduce.specs.Reduce.{mostRows}
 use Rattle.receive.specs.Answer.{spaceAnswer}
 use Rattle.receive.specs.Receive.{receiveOf}
@@ -59,16 +58,14 @@ module _ (q n k : ℕ) (settings : settingsRefusal q n k ≡ 0) where
   orderly t = either q n k t settings
 
   numbers : (t : ℕ) → isNumbering t ≡ true → (m : List ℕ) → Reduced q n k m → numberOf q n k t m ≡ Done (indexIn t (indexOf q n k t m))
-  unfolding numberOf
-  numbers t known m R = sym (done _ _ _ (reduced-unrefused q n k t m (unrefused q n k t settings known) R))
+  numbers t known m R = reduced-numbered q n k t m (unrefused q n k t settings known) R
 
   converts : (t to : ℕ) → isNumbering t ≡ true → isNumbering to ≡ true → (m : List ℕ) → Reduced q n k m
       → convertOf q n k t to (indexOf q n k t m) ≡ Done (indexIn to (indexOf q n k to m))
-  unfolding convertOf
   converts t to known other m R =
-      sym (done _ _ _ (convert-unrefused q n k t to (indexOf q n k t m) (unrefused q n k t settings known) other
-      (orderly t .index-below m R)))
-      ∙ ap counterpart (ap (numberOf q n k to) (orderly t .drawn-of-index m R) ∙ numbers to other m R)
+      convert-done q n k t to (indexOf q n k t m)
+      (convert-unrefused q n k t to (indexOf q n k t m) (unrefused q n k t settings known) other (orderly t .index-below m R))
+      ∙ ap (λ x. Done (indexIn to (indexOf q n k to x))) (orderly t .drawn-of-index m R)
 
   -- the answer for the span of rows, by any reduced matrix that has it
   spanned : (t : ℕ) (rows : List (List ℕ)) → All (Row q n) rows → (d : ℕ) (m : List ℕ) → Reduced q n d m → SameSpan q n (rowsOf n d m) rows

@@ -65,9 +65,7 @@ rowCountRefusal = 13
 abbrev pub receiverRefusal : ℕ
 receiverRefusal = 14
 
--- the drawn matrix has no number in the other numbering
-abbrev pub noCounterpartRefusal : ℕ
-noCounterpartRefusal = 15
+-- 15 is retired by order 4, and is not given to another meaning
 
 -- two receivers differ in q, n or k
 abbrev pub mismatchRefusal : ℕ

@@ -27,6 +27,4 @@ pub const ROW_COUNT: u32 = 13;
 
 pub const RECEIVER: u32 = 14;
 
-pub const NO_COUNTERPART: u32 = 15;
-
 pub const MISMATCH: u32 = 16;

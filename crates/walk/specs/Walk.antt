@@ -1,5 +1,5 @@
--- The test of a matrix on one walk. Order 3: "row by row, each entry goes once into a state without an array, and nothing else of the matrix
--- is tested". A row's code has two bits for each column from the left; `width` is how many bits a code can have.
+-- The test of a matrix on one walk. Order 3: "row by row, each entry goes once into a state without an array, and nothing else of the
+-- matrix is tested". A row's code has two bits for each column from the left; `width` is how many bits a code can have.
 --   digit x            == the two bits of an entry: 0 or 1 as it is, 2 where it is more
 --   fresh, entered     == a row of which nothing is read, and with one more entry x
 --   rowRead n m i j    == row i of the matrix m with n columns, its first j entries read

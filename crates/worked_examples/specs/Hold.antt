@@ -34,7 +34,7 @@ use Rattle.refusal.specs.Refusal.{refuseUnless, first, unlessRefused}
 use Rattle.numbering.specs.Numbering.{isNumbering, numberingOf, choiceRefusal}
 use Rattle.draw.specs.Draw.{drawRefusal, drawBuffer}
 use Rattle.number.specs.Number.{entriesRefusal, numberRefusal, numberOf}
-use Rattle.convert.specs.Convert.{convertRefusal, convertNumber, convertOf}
+use Rattle.convert.specs.Convert.{convertRefusal, convertOf}
 use Rattle.reduce.specs.Reduce.{reduceRefusal, reduceOf, reduceBuffer}
 use Rattle.receive.specs.Answer.{spaceRefusal, spaceAnswer}
 use Rattle.receive.specs.Receive.{rowsRefusal, receiveRefusal, receiveOf}
@@ -82,7 +82,7 @@ unfolding placeAfter bufferAfter listingOutput columnNames header linesFrom list
     reducedOf dimension combinationAt combination InSpan SameSpan rowsOf HasDimension refuseUnless first unlessRefused isNumbering
     numberingOf choiceRefusal drawRefusal drawBuffer entriesRefusal numberRefusal numberOf reduceRefusal reduceBuffer spaceAnswer
     rowsRefusal receiveRefusal receiveOf allBelow sum sumRange value tabulate padded refusedWord refusedLine reduceOf convertRefusal
-    convertNumber convertOf startOf wellFormed heldRows holding takeRefusal takenIn takeOf closeRefusal closeOf bytesOf exportedRefusal
+    convertOf startOf wellFormed heldRows holding takeRefusal takenIn takeOf closeRefusal closeOf bytesOf exportedRefusal
     exportedNumber exportedOf exportedBytes spaceRefusal jointOf jointDimension wide wideRows stacked rightHalves commonRows commonOf
     commonDimension alike poolRefusal pooled poolOf jointBuffer commonBuffer
 every = each (marked ++ (readings ++ refusals)) refl

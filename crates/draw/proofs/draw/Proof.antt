@@ -30,7 +30,7 @@ same-length c = search needs
 returns-2 : tie.Need-returns-2
 returns-2 c =
     let z = unrefused (c .before .before .before .before) in
-    (sym z, c .before .before .unrank .ensures ∙ draw-leaves _ _ _ _ _ _ z)
+    (sym z, c .before .before .unrank .ensures .0 ∙ draw-leaves _ _ _ _ _ _ z)
 
 pub draw-spec : {M : Type 1} → statement M
 draw-spec =

@@ -3,16 +3,17 @@ use mathlib.Core.Path.{ap, _∙_, sym}
 use Prim.Native.Nat.{_-_, _<_}
 use native.Mathlib.Omega.{arith}
 use lib.ListN.{replicate}
+use Rattle.field.specs.laws.Small.{size-small}
 use Rattle.extended.specs.laws.Unrank.{Unranking, unranking-start, unranking-end, free-asked, write-asked, pivot-asked, each-positive}
-use Rattle.extended.specs.laws.Unrank.{unranking-free, rows-positive, unranking-pivot}
+use Rattle.extended.specs.laws.Unrank.{unranking-free, rows-positive, bit-asked, unranking-pivot, unranking-vector}
 use Rattle.extended.proofs.unrank.Statement.{statement}
 use Rattle.extended.proofs.unrank.Tie as tie
 
 abbrev Inv-loop : tie.InvT-loop
-Inv-loop m₀ q n k rest₀ rows₀ columns₀ m rest rows columns = Unranking q n k rest₀ m columns rows rest
+Inv-loop m₀ q n k v₀ rest₀ rows₀ columns₀ m v rest rows columns = Unranking q n k rest₀ m v columns rows rest
 
 abbrev μ-loop : tie.MeasureT-loop
-μ-loop m₀ q n k rest₀ rows₀ columns₀ m rest rows columns = columns
+μ-loop m₀ q n k v₀ rest₀ rows₀ columns₀ m v rest rows columns = columns
 
 clear-requires : tie.Need-clear-requires Inv-loop μ-loop
 clear-requires c κs = tt
@@ -74,8 +75,18 @@ write-pivot-requires c κs =
     pivot-asked (l .before .before .before .before .before .before .pre .0) (l .loop .inv) (omega (arith, f .before .loop-test .taken)) _
     (f .free-count .ensures) (e .if1 .left)
 
+add-pivot-requires : tie.Need-add-pivot-requires Inv-loop μ-loop
+add-pivot-requires c κs =
+    let e = c .before .before .before .before in
+    let f = e .before in
+    let l = f .before .before in
+    let asked =
+    bit-asked (l .before .before .before .before .before .before .pre .0) (l .loop .inv) (omega (arith, f .before .loop-test .taken)) _
+    (f .free-count .ensures) (e .if1 .left) in
+    (asked .0, asked .1, omega (arith, asked .2))
+
 sub-rows : tie.Need-sub-rows Inv-loop μ-loop
-sub-rows c = row-left (c .before .before .before .before)
+sub-rows c = row-left (c .before .before .before .before .before)
 
 loop-less : tie.Need-loop-less Inv-loop μ-loop
 loop-less c = omega (arith, c .before .before .before .before .before .before .before .loop-test .taken)
@@ -90,22 +101,27 @@ loop-again c =
     (g .before .if1 .taken) (c .before .before .write-digits .ensures .0)
 
 loop-less-2 : tie.Need-loop-less-2 Inv-loop μ-loop
-loop-less-2 c = omega (arith, c .before .before .before .before .before .before .loop-test .taken)
+loop-less-2 c = omega (arith, c .before .before .before .before .before .before .before .loop-test .taken)
 
 loop-again-2 : tie.Need-loop-again-2 Inv-loop μ-loop
 loop-again-2 c =
-    let e = c .before .before .before .before in
+    let e = c .before .before .before .before .before in
     let f = e .before in
     let l = f .before .before in
     let a = l .before .before .before .before .before .before .pre .0 in
-    unranking-pivot a (l .loop .inv) (omega (arith, f .before .loop-test .taken)) _ (f .free-count .ensures) (e .if1 .left)
-    (c .before .before .write-pivot .ensures)
+    rw (c .add-pivot .ensures)
+    (unranking-pivot a (l .loop .inv) (omega (arith, f .before .loop-test .taken)) _ (f .free-count .ensures) (e .if1 .left)
+    (c .before .before .before .write-pivot .ensures))
 
 same-length : tie.Need-same-length Inv-loop μ-loop
 same-length c = c .before .loop .inv .drawing .sized ∙ sym (c .before .before .before .before .before .before .before .pre .2)
 
 returns : tie.Need-returns Inv-loop μ-loop
-returns c = unranking-end (c .before .loop .inv) (omega arith)
+returns c =
+    let s = c .before .before .before .before .before .before .before in (
+      unranking-end (c .before .loop .inv) (omega arith),
+      unranking-vector (c .before .loop .inv) (omega arith) (size-small _ (s .pre .0 .size) .0) (s .pre .1),
+    )
 
 pub unrank-spec : {M : Type 1} → statement M
 unrank-spec =
@@ -123,6 +139,7 @@ unrank-spec =
     write-digits-requires
     sub-write-pivot
     write-pivot-requires
+    add-pivot-requires
     sub-rows
     loop-less
     loop-again

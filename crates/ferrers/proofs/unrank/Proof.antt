@@ -1,10 +1,12 @@
 -- `ferrers::unrank` meets its contract: the size is found, and the rest is the place of the diagram and the tableau, in base q^size.
-use mathlib.Core.Path.{_∙_, subst}
+use mathlib.Core.Path.{ap, sym, _∙_, subst}
 use Prim.Native.Nat.{_/_, _%_, _<_}
 use native.Mathlib.Nat.{mod-lt}
 use native.Mathlib.Omega.{arith}
 use borrow.Author.Needs.{needs}
 use Rattle.field.specs.laws.Small.{size-small}
+use Rattle.matrix.specs.Matrix.{identifying}
+use Rattle.matrix.specs.laws.ShapeMatrix.{shape-vector}
 use Rattle.ferrers.specs.Drawn.{diagramShape}
 use Rattle.ferrers.specs.laws.FindSize.{found-place, found-drawn}
 use Rattle.ferrers.specs.laws.WriteMatrix.{Shaped, diagram-shaped}
@@ -60,7 +62,14 @@ returns : tie.Need-returns
 returns c =
     let v = c .before .before .before .before .before in
     let p = v .before .before in
-    c .before .before .draw .ensures _ (shaped v) ∙ found-drawn _ (p .power .ensures) (p .before .find-size .ensures)
+    let s = p .before .before .before in
+    let a = s .args in
+    let drawn = found-drawn _ (p .power .ensures) (p .before .find-size .ensures) in (
+      c .before .before .draw .ensures _ (shaped v) ∙ drawn,
+      sym (shaped v .vector-is)
+          ∙ sym (shape-vector (size-small (a .q) (s .pre .0 .size) .0) (shaped v .valid))
+          ∙ ap (identifying (a .n) (a .k)) drawn,
+    )
 
 pub unrank-spec : {M : Type 1} → statement M
 unrank-spec =

@@ -1,7 +1,7 @@
 -- `ferrers::vector_at` meets its contract: v holds the bits of the columns passed, and the others are those of the dots and the place that
 -- are left.
 use native.Mathlib.Omega.{arith}
-use Rattle.ferrers.specs.laws.VectorAt.{Telling, telling-start, telling-end, free-next, rows-left, bit-fits, telling-free}
+use Rattle.ferrers.specs.laws.VectorAt.{Telling, telling-start, telling-end, free-next, rows-left, bit-asked, telling-free}
 use Rattle.ferrers.specs.laws.VectorAt.{telling-pivot}
 use Rattle.ferrers.proofs.vector_at.Statement.{statement}
 use Rattle.ferrers.proofs.vector_at.Tie as tie
@@ -19,32 +19,25 @@ sub-c : tie.Need-sub-c Inv-loop μ-loop
 sub-c c = omega arith
 
 free-boxes-requires : tie.Need-free-boxes-requires Inv-loop μ-loop
-free-boxes-requires c κs = omega (arith, c .before .loop .inv .columns)
+free-boxes-requires c κs = omega (arith, c .before .loop .inv .passed .columns)
 
 sub-dots : tie.Need-sub-dots Inv-loop μ-loop
 sub-dots c =
     let f = c .before in
     free-next (omega (arith, f .before .loop-test .taken)) _ (f .free-boxes .ensures) (f .before .before .loop .inv) (c .if1 .taken)
 
-sub-v : tie.Need-sub-v Inv-loop μ-loop
-sub-v c = omega (arith, c .before .before .before .loop .inv .columns)
-
-cast-v : tie.Need-cast-v Inv-loop μ-loop
-cast-v c = omega arith
-
-shl-v : tie.Need-shl-v Inv-loop μ-loop
-shl-v c = omega arith
-
-add-v : tie.Need-add-v Inv-loop μ-loop
-add-v c =
+add-pivot-requires : tie.Need-add-pivot-requires Inv-loop μ-loop
+add-pivot-requires c κs =
     let f = c .before in
     let l = f .before .before in
-    record { fits = bit-fits (omega (arith, f .before .loop-test .taken)) _ (f .free-boxes .ensures) (l .loop .inv) (l .before .pre .0) }
+    let asked = bit-asked (omega (arith, f .before .loop-test .taken)) _ (f .free-boxes .ensures) (l .loop .inv) (l .before .pre .0) in
+    (asked .0, asked .1, omega (arith, asked .2))
 
 sub-rows : tie.Need-sub-rows Inv-loop μ-loop
 sub-rows c =
-    let f = c .before in
-    rows-left (omega (arith, f .before .loop-test .taken)) _ (f .free-boxes .ensures) (f .before .before .loop .inv) (c .if1 .left)
+    let e = c .before in
+    let f = e .before in
+    rows-left (omega (arith, f .before .loop-test .taken)) _ (f .free-boxes .ensures) (f .before .before .loop .inv) (e .if1 .left)
 
 loop-less : tie.Need-loop-less Inv-loop μ-loop
 loop-less c = omega arith
@@ -59,9 +52,10 @@ loop-less-2 c = omega arith
 
 loop-again-2 : tie.Need-loop-again-2 Inv-loop μ-loop
 loop-again-2 c =
-    let f = c .before in
-    let l = f .before .before in
-    telling-pivot (omega (arith, f .before .loop-test .taken)) _ (f .free-boxes .ensures) (l .loop .inv) (l .before .pre .0) (c .if1 .left)
+    let e = c .before in
+    let f = e .before in
+    rw (c .add-pivot .ensures)
+    (telling-pivot (omega (arith, f .before .loop-test .taken)) _ (f .free-boxes .ensures) (f .before .before .loop .inv) (e .if1 .left))
 
 returns : tie.Need-returns Inv-loop μ-loop
 returns c = telling-end (omega arith) (c .before .loop .inv)
@@ -76,10 +70,7 @@ vector-at-spec =
     sub-c
     free-boxes-requires
     sub-dots
-    sub-v
-    cast-v
-    shl-v
-    add-v
+    add-pivot-requires
     sub-rows
     loop-less
     loop-again

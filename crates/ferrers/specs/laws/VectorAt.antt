@@ -6,21 +6,19 @@
 --                            first c columns, with `rows` rows, the one at the place `earlier` is left
 --   telling-start, -end   == no column is passed yet, and all are
 --   free-next             == where the place is among the diagrams that begin with a free column, that column's dots are there
---   rows-left, bit-fits   == where it is not, a row is left for the pivot, and its bit fits 16 bits
+--   rows-left, bit-asked  == where it is not, a row is left for the pivot, and its bit can be added
 --   telling-free, -pivot  == one more column is passed, a free one or a pivot's
 -- Assumes nothing.
-use mathlib.Core.Path.{_≡_, refl, ap, _∙_, sym, subst}
+use mathlib.Core.Path.{_≡_, refl, ap, subst}
 use mathlib.Core.Bool.{Bool, true, false}
-use Prim.Native.Nat.{ℕ, zero, suc, pred, _+_, _*_, _-_, _^_, _%_, _<_, _≤_}
-use native.Mathlib.Nat.{le-refl, pow-zero, pow-succ', sub-self}
+use Prim.Native.Nat.{ℕ, zero, suc, pred, _+_, _*_, _-_, _^_, _<_, _≤_}
 use native.Mathlib.Omega.{arith}
 use borrow.Author.Tests.{lt-ltb, le-ltb}
 use lib.Dec.{ltb}
-use lib.Pow.{pow-mono}
 use Rattle.basics.specs.Choice.{pick}
-use Rattle.matrix.specs.laws.Bits.{shifted-one}
 use Rattle.matrix.specs.Shape.{Shape, free, pivot}
 use Rattle.matrix.specs.laws.Vector.{vector}
+use Rattle.matrix.specs.laws.Passed.{Passed, passed-start, passed-free, passed-pivot, passed-fits, passed-end}
 use Rattle.partitions.specs.laws.Box.{box-next, free-all}
 use Rattle.ferrers.specs.laws.DiagramShape.{free-fits}
 use Rattle.partitions.specs.laws.Less.{less-at}
@@ -46,23 +44,16 @@ diagram-vector q (suc n) k m d x =
     (diagram-vector q n (pred k) m (d - freeCount n k m) x)
 
 pub record Telling (n k size place v c rows left earlier : ℕ) : Type 0 where
-  pub columns : c ≤ n
   pub within : earlier < boxCount c rows left
-  pub below : v < 2 ^ (n - c)
-  pub whole : v + 2 ^ (n - c) * diagramVector c rows left earlier ≡ diagramVector n k size place
+  pub passed : Passed n v c (diagramVector c rows left earlier) (diagramVector n k size place)
 
 pub telling-start : (n k size place : ℕ) → place < boxCount n k size → Telling n k size place 0 n k size place
-telling-start n k size place h =
-    let one : 2 ^ (n - n) ≡ 1 = ap (λ e. 2 ^ e) (sub-self n) ∙ pow-zero 2 in
-    record { columns = le-refl n; within = h; below = omega arith; whole = rw one (omega arith) }
+telling-start n k size place h = record { within = h; passed = passed-start n _ }
 
 pub telling-end : {n k size place v c rows left earlier : ℕ} → c ≡ 0 → Telling n k size place v c rows left earlier
     → v ≡ diagramVector n k size place
 unfolding diagramVector
-telling-end {n} {v} {c} {rows} {left} {earlier} z t =
-    let none : diagramVector c rows left earlier ≡ 0 = ap (λ j. diagramVector j rows left earlier) z in
-    let all : v + 2 ^ (n - c) * 0 ≡ v = omega arith in
-    sym all ∙ ap (λ y. v + 2 ^ (n - c) * y) (sym none) ∙ t .whole
+telling-end {rows} {left} {earlier} z t = passed-end (ap (λ j. diagramVector j rows left earlier) z) (t .passed)
 
 vector-free : (c rows left earlier : ℕ) → earlier < freeCount c rows left
     → diagramVector (suc c) rows left earlier ≡ 2 * diagramVector c rows (left - rows) earlier
@@ -79,37 +70,21 @@ row-left : (c rows left earlier : ℕ) → earlier < boxCount (suc c) rows left 
 row-left c zero left earlier b h = absurd (omega (arith, free-all c left))
 row-left c (suc rows) left earlier b h = omega arith
 
--- a column's bit is worth twice that of the column to its right
-next-power : (n c : ℕ) → suc c ≤ n → 2 ^ (n - c) ≡ 2 * 2 ^ (n - suc c)
-next-power n c h = let e : n - c ≡ suc (n - suc c) = omega arith in ap (λ j. 2 ^ j) e ∙ pow-succ' 2 (n - suc c)
-
 free-step : (n k size place v c rows left earlier : ℕ) → earlier < freeCount c rows left
     → Telling n k size place v (suc c) rows left earlier → Telling n k size place v c rows (left - rows) earlier
 free-step n k size place v c rows left earlier h t =
-    let p = 2 ^ (n - suc c) in
-    let y = diagramVector c rows (left - rows) earlier in
-    let power = next-power n c (t .columns) in
-    let twice : 2 * p * y ≡ p * (2 * y) = omega arith in
     record {
-      columns = omega (arith, t .columns);
       within = rw (less-at (boxCount c rows) left rows (free-fits c rows left earlier h)) at h;
-      below = omega (arith, t .below);
-      whole = ap (λ e. v + e * y) power ∙ ap (λ e. v + e) twice ∙ ap (λ e. v + p * e) (sym (vector-free c rows left earlier h)) ∙ t .whole;
+      passed = passed-free (rw (vector-free c rows left earlier h) at (t .passed));
     }
 
 pivot-step : (n k size place v c rows left earlier : ℕ) → freeCount c (suc rows) left ≤ earlier
     → Telling n k size place v (suc c) (suc rows) left earlier
     → Telling n k size place (v + 2 ^ (n - suc c)) c rows left (earlier - freeCount c (suc rows) left)
 pivot-step n k size place v c rows left earlier h t =
-    let p = 2 ^ (n - suc c) in
-    let y = diagramVector c rows left (earlier - freeCount c (suc rows) left) in
-    let power = next-power n c (t .columns) in
-    let twice : v + p + 2 * p * y ≡ v + p * (1 + 2 * y) = omega arith in
     record {
-      columns = omega (arith, t .columns);
       within = omega (arith, box-next c rows left, t .within);
-      below = omega (arith, t .below);
-      whole = ap (λ e. v + p + e * y) power ∙ twice ∙ ap (λ e. v + p * e) (sym (vector-pivot c rows left earlier h)) ∙ t .whole;
+      passed = passed-pivot (rw (vector-pivot c rows left earlier h) at (t .passed));
     }
 
 -- the same for the row count that the code has
@@ -139,17 +114,13 @@ module _ {n k size place v c rows left earlier : ℕ} (some : 0 < c) (f : ℕ) (
   pub rows-left : f ≤ earlier → 1 ≤ rows
   rows-left h = row-left (c - 1) rows left earlier (here .within) (omega arith)
 
-  module _ (narrow : n ≤ 16) where
-    shifted : 1 * 2 ^ (n - c) % 65536 ≡ 2 ^ (n - c)
-    shifted = shifted-one (n - c) (omega (arith, t .columns))
+  bit : n - 1 - (c - 1) ≡ n - suc (c - 1)
+  bit = omega arith
 
-    pub bit-fits : v + 1 * 2 ^ (n - c) % 65536 < 65536
-    bit-fits =
-        let wide : 2 ^ suc (n - c) ≤ 2 ^ 16 = pow-mono {j = 16} (omega (arith, t .columns)) in
-        omega (arith, shifted, t .below, pow-succ' 2 (n - c))
+  pub bit-asked : n ≤ 16 → (n ≤ 16) × (c - 1 < n) × (v + 2 ^ (n - 1 - (c - 1)) < 2 ^ 16)
+  bit-asked narrow = (narrow, omega (arith, here .passed .columns), rw bit (passed-fits narrow (here .passed)))
 
-    pub telling-pivot : f ≤ earlier → Telling n k size place (v + 1 * 2 ^ (n - c) % 65536) (c - 1) (rows - 1) left (earlier - f)
-    telling-pivot h =
-        let g : freeCount (c - 1) rows left ≤ earlier = omega arith in
-        let bit : v + 1 * 2 ^ (n - c) % 65536 ≡ v + 2 ^ (n - suc (c - 1)) = ap (λ y. v + y) shifted ∙ ap (λ j. v + 2 ^ (n - j)) e in
-        rw (bit, counted) (pivot-taken n k size place v (c - 1) rows left earlier g here)
+  pub telling-pivot : f ≤ earlier → Telling n k size place (v + 2 ^ (n - 1 - (c - 1))) (c - 1) (rows - 1) left (earlier - f)
+  telling-pivot h =
+      let g : freeCount (c - 1) rows left ≤ earlier = omega arith in
+      rw (bit, counted) (pivot-taken n k size place v (c - 1) rows left earlier g here)

@@ -98,7 +98,8 @@ module _ (n k : ℕ) (m : List ℕ) (i p : ℕ) where
         pivot-alone =
             λ a h ne.
             eqb→eq (entry n m a p) 0
-            (or-other (eqb a i) _ (allBelow-at k (λ a. eqb a i || eqb (entry n m a p) 0) (and-right rises _ t₂) a h) (λ e. ne (eqb→eq a i e)));
+            (or-other (eqb a i) _ (allBelow-at k (λ a. eqb a i || eqb (entry n m a p) 0) (and-right rises _ t₂) a h)
+            (λ e. ne (eqb→eq a i e)));
       }
 
   pub clauses-true : Clauses n k m i p → rowReduced n k m i p ≡ true

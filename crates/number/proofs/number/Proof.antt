@@ -7,15 +7,13 @@ use borrow.Author.Tests.{not-true, not-false}
 use native.Mathlib.Omega.{arith}
 use Rattle.basics.specs.Choice.{pick}
 use Rattle.basics.specs.laws.Choice.{holds}
-use Rattle.refusal.specs.laws.First.{done}
 use Rattle.matrix.specs.Matrix.{Reduced, isReduced, identifying, entriesBelow}
 use Rattle.matrix.specs.laws.Tests.{reduced-exactly}
 use Rattle.walk.specs.Walk.{oversized}
 use Rattle.walk.specs.laws.Whole.{whole-entries, whole-rows, whole-vector}
 use Rattle.numbering.specs.Numbering.{choiceRefusal}
 use Rattle.numbering.specs.laws.Chosen.{chosen, accepted-bytes}
-use Rattle.number.specs.Number.{numberOf}
-use Rattle.number.specs.laws.NumberAccepted.{by-choice, by-length, by-entry, by-form, reduced-unrefused, number-refused}
+use Rattle.number.specs.laws.NumberAccepted.{by-choice, by-length, by-entry, by-form, reduced-numbered, number-refused}
 use Rattle.number.specs.laws.NumberAccepted.{number-told}
 use Rattle.number.specs.declared.Numbered.the-variants.{Done}
 use Rattle.number.proofs.number.Statement.{statement}
@@ -114,8 +112,10 @@ rank-requires c κs =
     )
 
 returns-5 : tie.Need-returns-5
-unfolding numberOf
-returns-5 c = let e = ap Done (c .rank .ensures) ∙ done _ _ _ (reduced-unrefused _ _ _ _ _ (chose (c .before .before .before .before .before .before .before)) (reduced (c .before))) in (e, number-told _ _ _ _ _ _ e)
+returns-5 c =
+    let chosen = chose (c .before .before .before .before .before .before .before) in
+    let e = ap Done (c .rank .ensures) ∙ sym (reduced-numbered _ _ _ _ _ chosen (reduced (c .before))) in
+    (e, number-told _ _ _ _ _ _ e)
 
 pub number-spec : {M : Type 1} → statement M
 number-spec =

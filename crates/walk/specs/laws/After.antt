@@ -55,7 +55,8 @@ same-test true b f g = sym (f refl)
 same-test false true f g = g refl
 same-test false false f g = refl
 
-module _ (width n : ℕ) (narrow : 2 * n ≤ width) {m : List ℕ} {i : ℕ} {w : Walk} {r : Row} (known : After n m i w) (row : Read n m i n r) where
+module _ (width n : ℕ) (narrow : 2 * n ≤ width) {m : List ℕ} {i : ℕ} {w : Walk} {r : Row} (known : After n m i w)
+    (row : Read n m i n r) where
   -- the zeros below the lowest bit of the row's code
   zeros : ℕ
   zeros = trailingZeros width (r .code)
@@ -111,7 +112,8 @@ module _ (width n : ℕ) (narrow : 2 * n ≤ width) {m : List ℕ} {i : ℕ} {w 
       let at : zeros ≡ 2 * p = zeros-one inside (rows .pivot-one i (omega arith)) in
       let sound = known .sound ∙ rows-reduced n i m (rows-less rows) in
       let half : zeros / 2 ≡ p = omega arith in
-      let empty : (b : ℕ) → b / 2 ≡ p → above n m i b ≡ false = λ b e. clear-above n m p i b e (λ a h. rows .zero-above a i h (omega arith)) in
+      let empty : (b : ℕ) → b / 2 ≡ p → above n m i b ≡ false =
+      λ b e. clear-above n m p i b e (λ a h. rows .zero-above a i h (omega arith)) in
       record {
         sound = sound;
         inside = omega arith;
@@ -136,7 +138,8 @@ module _ (width n : ℕ) (narrow : 2 * n ≤ width) {m : List ℕ} {i : ℕ} {w 
         record {
           right =
               λ a h.
-              ⊎-elim (λ (e : a ≡ i). omega (arith, here, ap (pivot n m) e)) (λ l. omega (arith, x .right, known .least (x .sound) .right a l))
+              ⊎-elim (λ (e : a ≡ i). omega (arith, here, ap (pivot n m) e))
+              (λ l. omega (arith, x .right, known .least (x .sound) .right a l))
               (eq-or-lt-of-le (le-of-suc-le-suc h));
           first = λ c h. omega (arith, here, h i (omega arith));
         }
@@ -148,7 +151,8 @@ module _ (width n : ℕ) (narrow : 2 * n ≤ width) {m : List ℕ} {i : ℕ} {w 
   next-bound : Bounds (λ place. getD m place 0) (suc i * n) (bounded w r)
   next-bound = rw (suc-mul i n, row .here) (cases n refl)
     where
-      cases : (c : ℕ) → c ≡ n → Bounds (λ place. getD m place 0) (i * n + n) (pick (ltb 0 n) (max (w .bound) (suc (r .greatest))) (w .bound))
+      cases : (c : ℕ) → c ≡ n
+          → Bounds (λ place. getD m place 0) (i * n + n) (pick (ltb 0 n) (max (w .bound) (suc (r .greatest))) (w .bound))
       cases zero e =
           let s : i * n ≡ i * n + n = omega arith in
           rw (le-ltb 0 n (omega arith)) (subst (λ c. Bounds (λ place. getD m place 0) c (w .bound)) s (known .bounds))

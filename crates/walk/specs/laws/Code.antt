@@ -1,10 +1,11 @@
 -- The code of a row, two bits a column; no part of the meaning.
---   codeBit f b     == bit b of the code of a row f: of a column's two bits the lower is set where the entry is 1, the upper where it is more
+--   codeBit f b     == bit b of the code of a row f: of a column's two bits the lower is set where the entry is 1, the upper where it is
+--                      more
 --   code-more       == a column more
 --   first-bit, no-bit == the lowest bit of a number, and none
 --   one-lowest, more-lowest, none-lowest == the lowest bit of a row's code, by its first nonzero entry
---   above n m i b   == bit b of the code of one of the first i rows; above-clear, clear-above == both bits of a column are clear exactly where
---                      these rows are 0 there
+--   above n m i b   == bit b of the code of one of the first i rows
+--   above-clear, clear-above == both bits of a column are clear exactly where these rows are 0 there
 --   two-bits        == the two bits of a column, read together
 -- Assumes nothing.
 use mathlib.Core.Path.{_≡_, refl, ap, ap₂, _∙_, sym}
@@ -87,7 +88,8 @@ module _ (b : ℕ → Bool) (width n : ℕ) (narrow : n ≤ width) where
 -- both bits of a column that is 0 are clear
 zero-bits : (f : ℕ → ℕ) (b : ℕ) → f (b / 2) ≡ 0 → codeBit f b ≡ false
 unfolding codeBit
-zero-bits f b e = rw (ne-eqb (f (b / 2)) 1 (λ o. absurd (omega (arith, e, o))), le-ltb 1 (f (b / 2)) (omega (arith, e))) (either (eqb (b % 2) 0))
+zero-bits f b e =
+    rw (ne-eqb (f (b / 2)) 1 (λ o. absurd (omega (arith, e, o))), le-ltb 1 (f (b / 2)) (omega (arith, e))) (either (eqb (b % 2) 0))
   where
     either : (t : Bool) → pick t false false ≡ false
     either true = refl

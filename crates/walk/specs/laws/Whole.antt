@@ -2,7 +2,6 @@
 --   whole-entries   == it tells that no entry is q or more exactly where the test of the entries holds
 --   whole-rows      == and if none is, that the matrix is reduced exactly where that test does
 --   whole-vector    == and its identifying vector where it is, else 0
---   reduced-vector  == the identifying vector of a reduced matrix
 -- Assumes nothing.
 use mathlib.Core.Path.{_≡_, refl, ap, _∙_, sym, subst}
 use mathlib.Core.Bool.{Bool, true, false, not}
@@ -67,6 +66,3 @@ module _ (width q n k : ℕ) (m : List ℕ) (narrow : 2 * n ≤ width) (sized : 
       cases : (b : Bool) → isReduced n k m ≡ b → walked width n m k .vector ≡ pick b (identifying n k m) 0
       cases true t = told-vector (reduced-exactly q n k m sized (holds _ e) .0 (holds _ t))
       cases false f = told .no-vector (λ t. subst T (whole-rows e ∙ f) t)
-
-pub reduced-vector : (width q n k : ℕ) (m : List ℕ) → 2 * n ≤ width → Reduced q n k m → walked width n m k .vector ≡ identifying n k m
-reduced-vector width q n k m narrow r = told-vector width q n k m narrow (r .size) r

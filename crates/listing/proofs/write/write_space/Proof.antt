@@ -7,8 +7,7 @@ use native.Mathlib.Nat.{min-eq-left}
 use native.Mathlib.Omega.{arith}
 use lib.ListN.{length, take, drop, replicate, length-take, length-append}
 use lib.Seq.{take-at}
-use Rattle.matrix.specs.Matrix.{Reduced}
-use Rattle.walk.specs.laws.Whole.{reduced-vector}
+use Rattle.matrix.specs.Matrix.{Reduced, identifying}
 use Rattle.extended.specs.Drawn.{drawnExtended}
 use Rattle.ferrers.specs.Ferrers.{ferrersIndex}
 use Rattle.text.specs.Text.{comma, lineFeed, numeral}
@@ -46,7 +45,7 @@ front : (c : tie.After-unrank) → let a = c .before .before .before .args in
 unfolding zeros
 front c =
     let a = c .before .before .before .args in
-    take-at (c .unrank .last .0) (drop (a .k * a .n) zeros) (a .k * a .n) (filled c) ∙ c .unrank .ensures
+    take-at (c .unrank .last .0) (drop (a .k * a .n) zeros) (a .k * a .n) (filled c) ∙ c .unrank .ensures .0
 
 sized : (c : tie.After-unrank) → let a = c .before .before .before .args in
     a .k * a .n ≡ length (take (a .k * a .n) (c .unrank .last .0 ++ drop (a .k * a .n) zeros))
@@ -65,11 +64,11 @@ reduced c =
     (s .pre .1))
 
 numbered : (c : tie.After-rank) →
-    let a = c .before .before .before .before .before .before .before .before .args in
+    let a = c .before .before .before .before .before .before .args in
     c .rank .result .0 ≡ ferrersIndex (a .q) (a .n) (a .k) (drawnExtended (a .q) (a .n) (a .k) (a .index .0))
 unfolding zeros
 numbered c =
-    let f = c .before .before .before .before .before in
+    let f = c .before .before .before in
     let a = f .before .before .before .args in
     c .rank .ensures ∙ ap (ferrersIndex (a .q) (a .n) (a .k)) (front f)
 
@@ -83,18 +82,18 @@ rows-of c =
     let a = s .args in
     let m = drawnExtended (a .q) (a .n) (a .k) (a .index .0) in
     let r = drawn-is-reduced (a .q) (a .n) (a .k) (a .index .0) (s .pre .0 .settings) (s .pre .1) in
-    ap (λ l. rowsText (a .n) (a .k) (l ++ drop (a .k * a .n) zeros)) (c .unrank .ensures)
+    ap (λ l. rowsText (a .n) (a .k) (l ++ drop (a .k * a .n) zeros)) (c .unrank .ensures .0)
     ∙ rowsText-front (a .n) (a .k) m (drop (a .k * a .n) zeros) (omega (arith, r .size))
 
 -- the line that is put together is the listing's
 line : (c : tie.After-rank) →
-    let f = c .before .before .before .before .before in
+    let f = c .before .before .before in
     let a = f .before .before .before .args in
     joined (linePieces (a .index .0) (c .rank .result .0) (rowsText (a .n) (a .k) (f .unrank .last .0 ++ drop (a .k * a .n) zeros)))
     ≡ listingLine (a .q) (a .n) (a .k) (a .index .0)
 unfolding zeros listingLine lineText
 line c =
-    let f = c .before .before .before .before .before in
+    let f = c .before .before .before in
     let a = f .before .before .before .args in
     ap₂ (λ i rows. numeral (a .index .0) ++ (comma ∷ (numeral i ++ (comma ∷ (rows ++ (lineFeed ∷ [])))))) (numbered c) (rows-of f)
 
@@ -116,45 +115,25 @@ array-share-prefix-entries : tie.Need-array-share-prefix-entries
 unfolding zeros
 array-share-prefix-entries c = rw (length-append _ (drop _ zeros)) (omega (arith, filled (c .before)))
 
-slice-aggregate-rows : tie.Need-slice-aggregate-rows
-unfolding zeros
-slice-aggregate-rows c = sized (c .before .before)
-
-rows-requires : tie.Need-rows-requires
-unfolding zeros
-rows-requires c κs =
-    let f = c .before .before in
-    let s = f .before .before .before in
-    (s .pre .0 .settings .narrow, omega (arith, reduced f .size))
-
-array-share-prefix-entries-2 : tie.Need-array-share-prefix-entries-2
-unfolding zeros
-array-share-prefix-entries-2 c = rw (length-append _ (drop _ zeros)) (omega (arith, filled (c .before .before .before)))
-
 slice-aggregate-rank : tie.Need-slice-aggregate-rank
 unfolding zeros
-slice-aggregate-rank c = sized (c .before .before .before .before)
+slice-aggregate-rank c = sized (c .before .before)
 
 rank-requires : tie.Need-rank-requires
 unfolding zeros
 rank-requires c κs =
-    let v = c .before in
-    let f = v .before .before .before in
-    let a = f .before .before .before .args in
-    let m = take (a .k * a .n) (f .unrank .last .0 ++ drop (a .k * a .n) zeros) in
-    let narrow = f .before .before .before .pre .0 .settings .narrow in
-    let told =
-    ap (λ w. w .vector) (v .rows .ensures)
-    ∙ reduced-vector 32 (a .q) (a .n) (a .k) m (omega (arith, narrow)) (reduced f) in
-    (f .before .before .before .pre .0 .settings, reduced f, told)
+    let f = c .before .before in
+    let s = f .before .before .before in
+    let a = s .args in
+    (s .pre .0 .settings, reduced f, f .unrank .ensures .1 ∙ ap (identifying (a .n) (a .k)) (sym (front f)))
 
 put-space-requires : tie.Need-put-space-requires
 unfolding zeros
 put-space-requires c κs =
-    let f = c .before .before .before .before .before .before in
+    let f = c .before .before .before .before in
     let s = f .before .before .before in
     let a = s .args in
-    subst (λ m. DigitRows (a .n) (a .k) (m ++ drop (a .k * a .n) zeros)) (sym (f .unrank .ensures))
+    subst (λ m. DigitRows (a .n) (a .k) (m ++ drop (a .k * a .n) zeros)) (sym (f .unrank .ensures .0))
     (digit-rows (a .q) (a .n) (a .k) (a .index .0) (s .pre .0 .settings) (s .pre .1) (drop (a .k * a .n) zeros))
 
 same-length : tie.Need-same-length
@@ -165,7 +144,7 @@ unfolding zeros
 returns c =
     let p = c .before .before in
     let r = p .before .before in
-    let f = r .before .before .before .before .before in
+    let f = r .before .before .before in
     let s = f .before .before .before in
     let a = s .args in
     composed-line (a .buffer .now)
@@ -182,9 +161,6 @@ write-space-spec =
     slice-aggregate-unrank
     unrank-requires
     array-share-prefix-entries
-    slice-aggregate-rows
-    rows-requires
-    array-share-prefix-entries-2
     slice-aggregate-rank
     rank-requires
     put-space-requires
