@@ -152,6 +152,13 @@ static void prepare_takes(setting s)
     }
 }
 
+/* The same receivers, and a row of zeros for each. */
+static void prepare_idles(setting s)
+{
+    prepare_takes(s);
+    memset(taken, 0, sizeof taken);
+}
+
 static void prepare_closes(setting s, uint64_t chosen)
 {
     prepare(s, chosen, 0);
@@ -258,19 +265,19 @@ static uint64_t receive_packed(unsigned input)
 static uint64_t take_library(unsigned input)
 {
     step = harness_take(receivers[input], taken[input], (size_t)now.n);
-    return step.raised + step.receiver.dimension;
+    return step.idle << 9 | step.raised << 8 | step.receiver.dimension;
 }
 
 static uint64_t lent_library(unsigned input)
 {
     step = harness_take_lent(receivers[input], taken[input], (size_t)now.n);
-    return step.raised + step.receiver.dimension;
+    return step.idle << 9 | step.raised << 8 | step.receiver.dimension;
 }
 
 static uint64_t take_plain(unsigned input)
 {
     other_step = plain_take(plain_receivers[input], taken[input], (size_t)now.n);
-    return other_step.raised + other_step.receiver.dimension;
+    return other_step.idle << 9 | other_step.raised << 8 | other_step.receiver.dimension;
 }
 
 static uint64_t close_library(unsigned input)
@@ -496,12 +503,21 @@ static void compare_take(setting s, const char *form, timed_call *library)
     report("take, a row of receive", name, times[0], times[1] / PLAIN_ROWS);
 }
 
+static void compare_idle(setting s)
+{
+    char name[64];
+    prepare_idles(s);
+    snprintf(name, sizeof name, "take by value, idle row " SETTING_FORMAT, SETTING_VALUES(s));
+    compare_units("take by value, idle row", name, INPUTS, 1, take_library, take_plain);
+}
+
 static void compare_setting(setting s)
 {
     compare_numbering(s, PLAIN_EXTENDED);
     compare_numbering(s, PLAIN_FERRERS);
     compare_take(s, "take by value", take_library);
     compare_take(s, "take lent", lent_library);
+    compare_idle(s);
 }
 
 static void compare_reduce(uint64_t q, uint64_t n)

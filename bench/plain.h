@@ -35,7 +35,7 @@ typedef struct {
 
 typedef struct {
     plain_receiver receiver;
-    uint32_t refusal, raised;
+    uint32_t refusal, raised, idle;
 } plain_step;
 
 /* Fills the tables; to be called once before all others. */
@@ -82,13 +82,19 @@ static inline bool plain_is_field(uint64_t q)
     return q == 2 || q == 3 || q == 5 || q == 7;
 }
 
-/* Whether all entries are below q. There is no way out of the loop, so that many are compared in one step. */
-static inline bool plain_below(uint64_t q, const uint8_t *entries, size_t length)
+/* The greatest entry; 0 where there is none. There is no way out of the loop, so that many are compared in one step. */
+static inline uint8_t plain_greatest(const uint8_t *entries, size_t length)
 {
     uint8_t most = 0;
     for (size_t place = 0; place < length; place++)
         most = entries[place] > most ? entries[place] : most;
-    return most < q;
+    return most;
+}
+
+/* Whether all entries are below q. */
+static inline bool plain_below(uint64_t q, const uint8_t *entries, size_t length)
+{
+    return plain_greatest(entries, length) < q;
 }
 
 /* Refusals of Reduce; and of Receive, but for 8 and 9. */

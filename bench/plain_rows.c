@@ -165,7 +165,7 @@ static bool reachable(const plain_receiver *receiver, uint8_t *pivots)
 
 plain_step plain_start(uint64_t q, uint64_t n, uint64_t k)
 {
-    plain_step step = {{{0}, 0, 0, 0, 0}, plain_setting(q, n, k), 0};
+    plain_step step = {{{0}, 0, 0, 0, 0}, plain_setting(q, n, k), 0, 0};
     if (step.refusal == PLAIN_DONE) {
         step.receiver.q = q;
         step.receiver.n = n;
@@ -174,8 +174,8 @@ plain_step plain_start(uint64_t q, uint64_t n, uint64_t k)
     return step;
 }
 
-/* Takes a row in place. */
-static uint32_t take(plain_receiver *receiver, const uint8_t *row, size_t length, uint32_t *raised)
+/* Takes a row in place; a row of zeros is idle, and nothing more is done with it. */
+static uint32_t take(plain_receiver *receiver, const uint8_t *row, size_t length, uint32_t *raised, uint32_t *idle)
 {
     uint8_t pivots[PLAIN_LENGTH];
     unsigned n = (unsigned)receiver->n, before = (unsigned)receiver->dimension, after = before;
@@ -183,8 +183,12 @@ static uint32_t take(plain_receiver *receiver, const uint8_t *row, size_t length
         return PLAIN_NO_RECEIVER;
     if (length != n)
         return PLAIN_NO_LENGTH;
-    if (!plain_below(receiver->q, row, length))
+    uint8_t most = plain_greatest(row, length);
+    if (most >= receiver->q)
         return PLAIN_NO_ENTRY;
+    *idle = most == 0;
+    if (most == 0)
+        return PLAIN_DONE;
     if (before < n)
         after = insert(&plain_fields[receiver->q], n, before, row, receiver->entries, pivots);
     receiver->dimension = after;
@@ -194,8 +198,8 @@ static uint32_t take(plain_receiver *receiver, const uint8_t *row, size_t length
 
 plain_step plain_take(plain_receiver receiver, const uint8_t *row, size_t length)
 {
-    plain_step step = {receiver, 0, 0};
-    step.refusal = take(&step.receiver, row, length, &step.raised);
+    plain_step step = {receiver, 0, 0, 0};
+    step.refusal = take(&step.receiver, row, length, &step.raised, &step.idle);
     return step;
 }
 

@@ -21,10 +21,13 @@ typedef struct {
     uint64_t q, n, k, dimension;
 } harness_receiver;
 
-/* What Start and Take leave: the receiver handed back, the refusal or 0, and 1 where the dimension grew. */
+/*
+ * What Start and Take leave: the receiver handed back, the refusal or 0, 1 where the dimension grew, and 1 where the
+ * row is idle: accepted, and all zeros. An accepted row that is neither raised nor idle is held.
+ */
 typedef struct {
     harness_receiver receiver;
-    uint32_t refusal, raised;
+    uint32_t refusal, raised, idle;
 } harness_step;
 
 /* An entry of the table of counts; 0 for a place of 1156 or more. */

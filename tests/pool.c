@@ -145,8 +145,7 @@ static harness_receiver take_rows(harness_receiver receiver, uint64_t count, con
 {
     for (uint64_t row = 0; row < count; row++) {
         const uint8_t *entries = rows + row * receiver.n;
-        harness_step step = random_below(2) == 0 ? harness_take(receiver, entries, (size_t)receiver.n)
-                                                 : harness_take_lent(receiver, entries, (size_t)receiver.n);
+        harness_step step = take(random_form(), &receiver, entries, (size_t)receiver.n);
         check(step.refusal == ACCEPTED, "row refused %u", step.refusal);
         receiver = step.receiver;
     }

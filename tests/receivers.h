@@ -1,6 +1,6 @@
 /*
  * What the tests of the receiver's calls share: receivers as the library and as the second implementation have them,
- * receivers of a given dimension, and damage.
+ * Take in either form, rows, receivers of a given dimension, and damage.
  */
 #ifndef RECEIVERS_H
 #define RECEIVERS_H
@@ -29,6 +29,22 @@ static inline uint32_t revive(const harness_receiver *receiver, second_receiver 
     return second_revive(receiver->q, receiver->n, receiver->k, receiver->dimension, receiver->entries, model);
 }
 
+/* ---- Take in either form ---- */
+
+typedef enum { BY_VALUE, LENT } take_form;
+
+static const char *const form_names[] = {"by value", "lent"};
+
+static inline take_form random_form(void)
+{
+    return random_below(2) == 0 ? BY_VALUE : LENT;
+}
+
+static inline harness_step take(take_form form, const harness_receiver *receiver, const uint8_t *row, size_t length)
+{
+    return form == LENT ? harness_take_lent(*receiver, row, length) : harness_take(*receiver, row, length);
+}
+
 /* ---- Rows ---- */
 
 static inline void random_mixture(uint64_t q, uint64_t n, uint64_t count, const uint8_t *rows, uint8_t *mixture)
@@ -36,6 +52,31 @@ static inline void random_mixture(uint64_t q, uint64_t n, uint64_t count, const 
     uint8_t factors[MAX_ROWS];
     random_entries(q, factors, (size_t)count);
     mix_rows(q, n, count, rows, factors, mixture);
+}
+
+/* A number that is no entry of the field: the first, the last or any. */
+static inline uint8_t oversized(uint64_t q)
+{
+    switch (random_below(3)) {
+    case 0: return (uint8_t)q;
+    case 1: return 255;
+    default: return (uint8_t)(q + random_below(256 - q));
+    }
+}
+
+/* Damages a row so that it is refused, and answers its length, which is at most n + 1. */
+static inline size_t refused_row(uint64_t q, uint64_t n, uint8_t *row)
+{
+    unsigned kind = (unsigned)random_below(5);
+    if (kind >= 3)
+        row[random_below(n)] = oversized(q);
+    switch (kind) {
+    case 0: return (size_t)n - 1;
+    case 1: return (size_t)n + 1;
+    case 2: return 0;
+    case 3: return (size_t)n;
+    default: return random_below(2) == 0 ? (size_t)n - 1 : (size_t)n + 1;
+    }
 }
 
 /* A receiver of the given dimension, after random rows; as many as surely are enough, unless Take is at fault. */
@@ -49,6 +90,22 @@ static inline harness_receiver receiver_of(uint64_t q, uint64_t n, uint64_t k, u
     }
     check(receiver.dimension == dimension, "dimension %" PRIu64 " not reached", dimension);
     return receiver;
+}
+
+/* ---- Answers that scripts met ---- */
+
+/* How often each refusal was met, and each row's answer; a script that meets only some of them tests little. */
+static uint64_t take_refusals[REFUSAL_LIMIT], close_refusals[REFUSAL_LIMIT], raised_rows, held_rows, idle_rows;
+
+/* The scripts met every answer of Take and Close that they can. */
+static inline void script_answers_group(void)
+{
+    check_group_begin("answers that the scripts met");
+    check(raised_rows > 0 && held_rows > 0 && idle_rows > 0, "rows raised, held or idle");
+    check(take_refusals[REFUSED_LENGTH] > 0 && take_refusals[REFUSED_ENTRY] > 0, "rows refused 4 or 6");
+    check(close_refusals[ACCEPTED] > 0 && close_refusals[REFUSED_NUMBERING] > 0, "done or refused 10");
+    check(close_refusals[REFUSED_TOO_FEW] > 0 && close_refusals[REFUSED_TOO_MANY] > 0, "refused 8 or 9");
+    check_group_end();
 }
 
 /* ---- Groups of receivers of which some are reachable ---- */

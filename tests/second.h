@@ -80,8 +80,13 @@ uint32_t second_start(uint64_t q, uint64_t n, uint64_t k, second_receiver *recei
 /* Writes the reduced rows of the list, then zeros, 256 bytes in all, and answers the dimension. */
 uint64_t second_entries(const second_receiver *receiver, uint8_t *entries);
 
-/* Take, of at most 64 accepted rows; raised is 1 where the dimension grows. Refuses 4, 6. */
-uint32_t second_take(second_receiver *receiver, const uint8_t *row, size_t length, uint32_t *raised);
+/* What Take tells of a row: 1 where the dimension grows, and 1 where the row is idle; both 0 where it is refused. */
+typedef struct {
+    uint32_t raised, idle;
+} second_taken;
+
+/* Take, of at most 64 accepted rows. Refuses 4, 6. */
+uint32_t second_take(second_receiver *receiver, const uint8_t *row, size_t length, second_taken *taken);
 
 /* Close: the index of the list's span. Refuses 10, 8, 9. */
 uint32_t second_close(const second_receiver *receiver, uint64_t numbering, uint64_t *index, second_told *told);

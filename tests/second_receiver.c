@@ -1,6 +1,7 @@
 /*
- * The receiver of the second implementation: it keeps the list of all accepted rows, and nothing else is carried from
- * one call to the next. Whatever is asked of it comes from Gauss-Jordan elimination over that whole list.
+ * The receiver of the second implementation: it keeps the list of all accepted rows, idle ones too, and nothing else is
+ * carried from one call to the next. Whatever is asked of it comes from Gauss-Jordan elimination over that whole list,
+ * and a row is idle where the elimination over that row alone leaves no dimension.
  */
 #include "second.h"
 
@@ -29,19 +30,20 @@ uint64_t second_entries(const second_receiver *receiver, uint8_t *entries)
     return told.dimension;
 }
 
-uint32_t second_take(second_receiver *receiver, const uint8_t *row, size_t length, uint32_t *raised)
+uint32_t second_take(second_receiver *receiver, const uint8_t *row, size_t length, second_taken *taken)
 {
     uint8_t entries[MAX_LENGTH * MAX_LENGTH];
     uint64_t n = receiver->n;
     second_told alone;
-    *raised = 0;
+    *taken = (second_taken){0, 0};
     uint32_t refusal = second_reduce(receiver->q, n, 1, row, length, entries, (size_t)(n * n), &alone);
     if (refusal != ACCEPTED)
         return refusal;
     uint64_t before = second_entries(receiver, entries);
     memcpy(receiver->rows + receiver->r * n, row, length);
     receiver->r++;
-    *raised = second_entries(receiver, entries) != before;
+    taken->raised = second_entries(receiver, entries) != before;
+    taken->idle = alone.dimension == 0;
     return ACCEPTED;
 }
 

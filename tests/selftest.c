@@ -353,17 +353,17 @@ static void receiver_figures_group(void)
     second_receiver receiver;
     uint64_t index;
     second_told told;
-    uint32_t raised;
+    second_taken taken;
     check_group_begin("receiver figures");
     read_rows("110/011/101", rows);
     check(second_start(2, 16, 7, &receiver) == REFUSED_COUNT && receiver.q == 0, "refused start");
     check(second_start(2, 3, 2, &receiver) == ACCEPTED, "start");
-    check(second_take(&receiver, rows, 3, &raised) == ACCEPTED && raised == 1, "110 is raised");
-    check(second_take(&receiver, rows, 2, &raised) == REFUSED_LENGTH && raised == 0, "two bytes");
+    check(second_take(&receiver, rows, 3, &taken) == ACCEPTED && taken.raised == 1, "110 is raised");
+    check(second_take(&receiver, rows, 2, &taken) == REFUSED_LENGTH && taken.raised == 0, "two bytes");
     check(second_close(&receiver, EXTENDED, &index, &told) == REFUSED_TOO_FEW && told.dimension == 1 && told.vector == 4,
           "110 alone");
-    check(second_take(&receiver, rows + 3, 3, &raised) == ACCEPTED && raised == 1, "011 is raised");
-    check(second_take(&receiver, rows + 6, 3, &raised) == ACCEPTED && raised == 0, "101 is held");
+    check(second_take(&receiver, rows + 3, 3, &taken) == ACCEPTED && taken.raised == 1, "011 is raised");
+    check(second_take(&receiver, rows + 6, 3, &taken) == ACCEPTED && taken.raised == 0, "101 is held");
     check(second_close(&receiver, FERRERS, &index, &told) == ACCEPTED && index == 3 && told.vector == 6,
           "the span's index");
     check(second_entries(&receiver, entries) == 2 && memcmp(entries, expected, sizeof expected) == 0, "the entries");
@@ -376,6 +376,40 @@ static void receiver_figures_group(void)
     check_group_end();
 }
 
+/* Takes rows of so many digits each, with one refusal or none; raised is told by 1, idle by 2, all else by 0. */
+static void compare_taken(second_receiver *receiver, const char *rows, size_t length, uint32_t refusal,
+                          const char *answers)
+{
+    uint8_t entries[ROWS_LIMIT];
+    second_taken taken;
+    size_t count = read_rows(rows, entries) / length;
+    for (size_t row = 0; row < count; row++)
+        check(second_take(receiver, entries + row * length, length, &taken) == refusal &&
+              taken.raised == (answers[row] == '1') && taken.idle == (answers[row] == '2'),
+              "%s: row %zu, raised %u, idle %u", rows, row, taken.raised, taken.idle);
+}
+
+/* Zero rows are idle before all others, after them, and once the receiver is full; those of a wrong length are not. */
+static void idle_figures_group(void)
+{
+    uint8_t entries[2][MAX_LENGTH * MAX_LENGTH];
+    second_receiver receiver;
+    check_group_begin("idle rows");
+    second_start(2, 3, 2, &receiver);
+    compare_taken(&receiver, "000/000/110/000/110/011/101", 3, ACCEPTED, "2212010");
+    second_entries(&receiver, entries[0]);
+    compare_taken(&receiver, "000/000/101", 3, ACCEPTED, "220");
+    compare_taken(&receiver, "00/11", 2, REFUSED_LENGTH, "00");
+    compare_taken(&receiver, "0000/0001", 4, REFUSED_LENGTH, "00");
+    compare_taken(&receiver, "002/200", 3, REFUSED_ENTRY, "00");
+    check(second_entries(&receiver, entries[1]) == 2 && memcmp(entries[0], entries[1], sizeof entries[0]) == 0,
+          "only raised rows change the entries");
+    compare_taken(&receiver, "001/000/111/100", 3, ACCEPTED, "1200");
+    second_start(7, 2, 1, &receiver);
+    compare_taken(&receiver, "00/06/01/00/60/00/66", 2, ACCEPTED, "2102120");
+    check_group_end();
+}
+
 /* Pools the spans of two lists of rows and compares with both reduced matrices. */
 static void compare_pool_figure(uint64_t q, uint64_t n, const char *first, const char *second, const char *joint,
                                 const char *common)
@@ -383,12 +417,12 @@ static void compare_pool_figure(uint64_t q, uint64_t n, const char *first, const
     uint8_t rows[MAX_LENGTH * MAX_LENGTH], matrices[2][MAX_LENGTH * MAX_LENGTH], expected[2][MAX_LENGTH * MAX_LENGTH];
     second_receiver receivers[2];
     second_pooled pooled;
-    uint32_t raised;
+    second_taken taken;
     const char *const texts[] = {first, second};
     for (unsigned place = 0; place < 2; place++) {
         second_start(q, n, 1, &receivers[place]);
         for (size_t row = 0, count = read_rows(texts[place], rows) / n; row < count; row++)
-            second_take(&receivers[place], rows + row * n, (size_t)n, &raised);
+            second_take(&receivers[place], rows + row * n, (size_t)n, &taken);
     }
     memset(expected, 0, sizeof expected);
     size_t length = (size_t)(n * n), joint_length = read_rows(joint, expected[0]);
@@ -485,6 +519,7 @@ int main(int argument_count, char **arguments)
     revived_group(5, 2);
     revived_group(7, 2);
     receiver_figures_group();
+    idle_figures_group();
     pool_figures_group();
     pool_refusals_group();
     return check_summary("selftest");

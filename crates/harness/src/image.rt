@@ -17,12 +17,13 @@ pub struct Image {
     pub dimension: u64,
 }
 
-// What Start and Take leave: the receiver, the refusal or 0, and 1 where the dimension grew.
+// What Start and Take leave: the receiver, the refusal or 0, 1 where the dimension grew, and 1 where the row was idle.
 #[repr(C)]
 pub struct Step {
     pub image: Image,
     pub refusal: u32,
     pub raised: u32,
+    pub idle: u32,
 }
 
 fn image_of(receiver: Receiver) -> Image {
@@ -47,11 +48,12 @@ fn receiver_of(image: Image) -> Receiver {
     }
 }
 
-fn step_of(receiver: Receiver, refusal: u32, raised: u32) -> Step {
+fn step_of(receiver: Receiver, refusal: u32, raised: u32, idle: u32) -> Step {
     Step {
         image: image_of(receiver),
         refusal,
         raised,
+        idle,
     }
 }
 
@@ -59,16 +61,17 @@ fn step_of(receiver: Receiver, refusal: u32, raised: u32) -> Step {
 pub extern "C" fn harness_start(q: u64, n: u64, k: u64) -> Step {
     let started = receiver::start(q, n, k);
     let receiver = started.receiver;
-    step_of(receiver, started.refusal, 0)
+    step_of(receiver, started.refusal, 0, 0)
 }
 
 fn take_step(taken: Taken) -> Step {
     let receiver = taken.receiver;
     let answer = taken.answer;
     match answer {
-        TakeAnswer::Raised => step_of(receiver, 0, 1),
-        TakeAnswer::Held => step_of(receiver, 0, 0),
-        TakeAnswer::Refused(refusal) => step_of(receiver, refusal, 0),
+        TakeAnswer::Raised => step_of(receiver, 0, 1, 0),
+        TakeAnswer::Held => step_of(receiver, 0, 0, 0),
+        TakeAnswer::Idle => step_of(receiver, 0, 0, 1),
+        TakeAnswer::Refused(refusal) => step_of(receiver, refusal, 0, 0),
     }
 }
 

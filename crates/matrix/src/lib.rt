@@ -3,7 +3,7 @@ ghost use mathlib.Core.Path.{_≡_};
 ghost use mathlib.Core.List.{List};
 ghost use Prim.Native.Nat.{ℕ, _+_, _*_, _-_, _^_, _/_, _%_, _≤_, _<_};
 ghost use lib.Count.{trailingZeros};
-ghost use lib.Dec.{eqb};
+ghost use lib.Dec.{eqb, ltb};
 ghost use lib.ListN.{length, getD, replicate};
 ghost use Rattle.matrix.specs.Matrix.{entry, lead as leadOf, pivot, entriesBelow, Reduced, identifying as vectorOf};
 ghost use Rattle.matrix.specs.Shape.{digitAt};
@@ -25,22 +25,29 @@ pub fn lead(m: &[u8], start: usize, n: usize) -> usize
     n
 }
 
-// Whether every byte is below q: whether the greatest is. The loop has no way out, so that the compiler compares many bytes in one step.
+// The greatest byte; 0 where there is none. The loop has no way out, so that the compiler compares many bytes in one step.
+pub fn greatest(m: &[u8]) -> u8
+    ensures { λ r. ⌜ ((q : ℕ) → 0 < q → ltb r q ≡ entriesBelow q (now (m .entry))) ⌝ }
+{
+    let mut greatest: u8 = 0;
+    let mut place = 0;
+    while place < m.len() {
+        if greatest < m[place] {
+            greatest = m[place];
+        }
+        place += 1;
+    }
+    greatest
+}
+
+// Whether every byte is below q: whether the greatest is.
 pub fn entries_below(m: &[u8], q: u64) -> bool
     ensures { λ r. ⌜ r ≡ entriesBelow q (now (m .entry)) ⌝ }
 {
     if q == 0 {
         return m.len() == 0;
     }
-    let mut greatest: u8 = 0;
-    let mut i = 0;
-    while i < m.len() {
-        if greatest < m[i] {
-            greatest = m[i];
-        }
-        i += 1;
-    }
-    (greatest as u64) < q
+    (greatest(m) as u64) < q
 }
 
 // The identifying vector v with one more pivot, in column p from the left: column j from the right has the value 2^(j-1).

@@ -9,12 +9,19 @@
 --   holding q n k rows == the receiver that holds the reduced rows of `rows`
 --   takeRefusal      == "Take one row into a receiver: 14 if the receiver is none that Start and Take can leave after an accepted Start;
 --                       4 if the row isn't n bytes; 6."
---   takeOf r row     == what Take hands back: the receiver with the row taken in, and "raised" if the dimension grew, "held" if not; "A
---                       refused row gives only the number, and the receiver is handed back unchanged."
+--   isZero row       == the test that the row is zero: that every entry of it is 0 (below 1)
+--   takeOf r row     == what Take hands back: the receiver with the row taken in, and, by order 5, ""idle" for an accepted row of zeros";
+--                       for another, "raised" if the dimension grew, "held" if not; "A refused row gives only the number, and the receiver
+--                       is handed back unchanged."
 --   lentReceiver, lentAnswer == the same for Take on a lent receiver: what it leaves, and what it answers
 --   closeOf r t      == "Close a receiver: 14, 10, 8, 9, the last two with the dimension"; order 2: and with the identifying vector
---   takeNumber, takeRaised == document 01's refusal number of each case of Take's answer, and the test that the case is "raised"
+--   takeNumber, takeRaised, takeIdle == document 01's refusal number of each case of Take's answer, and the tests that the case is
+--                       "raised", and that it is "idle"
+--   TakeTells r row t == what t, handed back by Take, tells: by its answer the refusal, whether the dimension grew, and whether an
+--                       accepted row is zero; and, order 5: "The receiver's content is untouched" wherever the answer isn't "raised": whole
+--                       receivers are equal
 -- Assumes nothing.
+use mathlib.Core.Path.{_≡_}
 use mathlib.Core.Bool.{Bool, true, false, _&&_}
 use mathlib.Core.List.{List, [], _∷_, _++_}
 use Prim.Native.Nat.{ℕ, _*_}
@@ -36,7 +43,7 @@ use Rattle.receiver.specs.declared.Receiver.{Receiver}
 use Rattle.receiver.specs.declared.Started.{Started}
 use Rattle.receiver.specs.declared.Taken.{Taken}
 use Rattle.receiver.specs.declared.TakeAnswer.{TakeAnswer}
-use Rattle.receiver.specs.declared.TakeAnswer.the-variants.{Raised, Held, Refused}
+use Rattle.receiver.specs.declared.TakeAnswer.the-variants.{Raised, Held, Idle, Refused}
 
 abbrev pub empty : ℕ → ℕ → ℕ → Receiver
 empty q n k = record { entries = replicate 256 0; q = q; n = n; k = k; dimension = 0 }
@@ -79,16 +86,23 @@ takeRefusal r row =
     ∷ refuseUnless (entriesBelow (r .q) row) entryRefusal
     ∷ [])
 
+abbrev pub isZero : List ℕ → Bool
+isZero row = entriesBelow 1 row
+
 -- the row taken in
 unfoldable pub takenIn : Receiver → List ℕ → Taken
 takenIn r row =
     record {
       receiver = holding (r .q) (r .n) (r .k) (heldRows r ++ (row ∷ []));
-      answer = pick (ltb (r .dimension) (dimension (r .q) (r .n) (heldRows r ++ (row ∷ [])))) Raised Held;
+      answer = pick (isZero row) Idle (pick (ltb (r .dimension) (dimension (r .q) (r .n) (heldRows r ++ (row ∷ [])))) Raised Held);
     }
 
 unfoldable pub takeOf : Receiver → List ℕ → Taken
 takeOf r row = unlessRefused (takeRefusal r row) (takenIn r row) (record { receiver = r; answer = Refused (takeRefusal r row) })
+
+-- a receiver and an answer
+abbrev pub takenAs : Receiver → TakeAnswer → Taken
+takenAs r answer = record { receiver = r; answer = answer }
 
 abbrev pub lentReceiver : Receiver → List ℕ → Receiver
 lentReceiver r row = (takeOf r row) .receiver
@@ -106,9 +120,23 @@ closeOf r t =
 abbrev pub takeNumber : TakeAnswer → ℕ
 takeNumber Raised = 0
 takeNumber Held = 0
+takeNumber Idle = 0
 takeNumber (Refused r) = r
 
 abbrev pub takeRaised : TakeAnswer → Bool
 takeRaised Raised = true
 takeRaised Held = false
+takeRaised Idle = false
 takeRaised (Refused r) = false
+
+abbrev pub takeIdle : TakeAnswer → Bool
+takeIdle Raised = false
+takeIdle Held = false
+takeIdle Idle = true
+takeIdle (Refused r) = false
+
+pub record TakeTells (r : Receiver) (row : List ℕ) (t : Taken) : Type 0 where
+  pub number : takeNumber (t .answer) ≡ takeRefusal r row
+  pub raised : takeRaised (t .answer) ≡ ltb (r .dimension) ((t .receiver) .dimension)
+  pub idle : takeIdle (t .answer) ≡ eqb (takeRefusal r row) 0 && isZero row
+  pub untouched : takeRaised (t .answer) ≡ false → t .receiver ≡ r

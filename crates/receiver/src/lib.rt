@@ -1,14 +1,13 @@
 // The receiver: the reduced rows of all rows taken so far, and the settings.
 ghost use mathlib.Core.Path.{_≡_};
-ghost use lib.Dec.{ltb};
+ghost use mathlib.Core.Bool.{false};
 ghost use lib.ListN.{length};
 ghost use Rattle.basics.specs.Choice.{pick};
 ghost use Rattle.settings.specs.Settings.{settingsRefusal};
 ghost use Rattle.matrix.specs.Matrix.{identifying};
 ghost use Rattle.receive.specs.Answer.{Told};
-ghost use Rattle.receiver.specs.Receiver.{startOf, startNumber, used, wellFormed, takeRefusal, takenIn, takeOf, takeNumber};
-ghost use Rattle.receiver.specs.Receiver.{takeRaised};
-ghost use Rattle.receiver.specs.Receiver.{lentReceiver, lentAnswer, closeRefusal, closeOf};
+ghost use Rattle.receiver.specs.Receiver.{startOf, startNumber, used, wellFormed, isZero, takeRefusal, takenIn, takeOf, TakeTells};
+ghost use Rattle.receiver.specs.Receiver.{lentReceiver, lentAnswer, takenAs, closeRefusal, closeOf};
 ghost use Rattle.receiver.specs.laws.WellFormed.{made};
 ghost use Rattle.receiver.specs.laws.TakeAccepted.{TakeAccepted};
 use receive::Received;
@@ -33,6 +32,7 @@ pub struct Started {
 pub enum TakeAnswer {
     Raised,
     Held,
+    Idle,
     Refused(u32),
 }
 
@@ -78,10 +78,17 @@ struct Formed {
     vector: u16,
 }
 
-// The refusal of a call on a receiver, and what the receiver's test found of the vector.
-struct Tested {
+// The refusal of Close, and what the receiver's test found of the vector.
+struct CloseTested {
     refusal: u32,
     vector: u16,
+}
+
+// The refusal of Take, what the receiver's test found of the vector, and whether the row, not refused, is zero.
+struct TakeTested {
+    refusal: u32,
+    vector: u16,
+    zero: bool,
 }
 
 // Whether the receiver of these settings, dimension and entries is one that Start and Take can leave after an accepted Start. The
@@ -134,37 +141,46 @@ impl Receiver {
         found.formed
     }
 
-    // The first refusal of Take that applies; 0 where none does.
-    fn take_refusal(self, row: &[u8]) -> Tested
+    // The first refusal of Take that applies; 0 where none does. The row's entries are looked at once.
+    fn take_refusal(self, row: &[u8]) -> TakeTested
         ensures { λ r. ⌜ (r .refusal ≡ takeRefusal self (now (row .entry)))
-            × (r .vector ≡ pick (wellFormed self) (identifying (self .n) (self .dimension) (used self)) 0) ⌝ }
+            × (r .vector ≡ pick (wellFormed self) (identifying (self .n) (self .dimension) (used self)) 0)
+            × (r .refusal ≡ 0 → r .zero ≡ isZero (now (row .entry))) ⌝ }
     {
         let entries = self.entries;
         let found = well_formed(self.q, self.n, self.k, self.dimension, &entries);
         let vector = found.vector;
         if !found.formed {
-            return Tested {
+            return TakeTested {
                 refusal: refusal::RECEIVER,
                 vector,
+                zero: false,
             };
         }
         if row.len() as u64 != self.n {
-            return Tested {
+            return TakeTested {
                 refusal: refusal::LENGTH,
                 vector,
+                zero: false,
             };
         }
-        if !matrix::entries_below(row, self.q) {
-            return Tested {
+        let greatest = matrix::greatest(row);
+        if self.q <= greatest as u64 {
+            return TakeTested {
                 refusal: refusal::ENTRY,
                 vector,
+                zero: false,
             };
         }
-        Tested { refusal: 0, vector }
+        TakeTested {
+            refusal: 0,
+            vector,
+            zero: greatest < 1,
+        }
     }
 
     // The first refusal of Close that applies, but for 8 and 9; 0 where none does.
-    fn close_refusal(self, t: u64) -> Tested
+    fn close_refusal(self, t: u64) -> CloseTested
         ensures { λ r. ⌜ (r .refusal ≡ closeRefusal self t)
             × (r .vector ≡ pick (wellFormed self) (identifying (self .n) (self .dimension) (used self)) 0) ⌝ }
     {
@@ -172,23 +188,25 @@ impl Receiver {
         let found = well_formed(self.q, self.n, self.k, self.dimension, &entries);
         let vector = found.vector;
         if !found.formed {
-            return Tested {
+            return CloseTested {
                 refusal: refusal::RECEIVER,
                 vector,
             };
         }
         if !numbering::is_numbering(t) {
-            return Tested {
+            return CloseTested {
                 refusal: refusal::NUMBERING,
                 vector,
             };
         }
-        Tested { refusal: 0, vector }
+        CloseTested { refusal: 0, vector }
     }
 
-    // The row taken in; every test has been made, and found the receiver's identifying vector.
+    // The row taken in; every test has been made, found the receiver's identifying vector, and the row not zero.
     fn taken_in(self, row: &[u8], vector: u16) -> Taken
-        requires { ⌜ TakeAccepted self (now row) × (vector ≡ identifying (self .n) (self .dimension) (used self)) ⌝ }
+        requires { ⌜ TakeAccepted self (now row)
+            × (isZero (now row) ≡ false)
+            × (vector ≡ identifying (self .n) (self .dimension) (used self)) ⌝ }
         ensures { λ r. ⌜ r ≡ takenIn self (now (row .entry)) ⌝ }
     {
         let width = self.n as usize;
@@ -224,18 +242,22 @@ impl Receiver {
         }
     }
 
-    // Take: the receiver with the row taken in, and whether the dimension grew. Refuses 14, 4 (the row is not n bytes), 6, and then hands
-    // the receiver back unchanged.
+    // Take: the receiver with the row taken in, and whether the dimension grew, the row was held already, or the row is zero and so idle.
+    // Refuses 14, 4 (the row is not n bytes), 6. Unless the dimension grew, the receiver is handed back unchanged.
     pub fn take(self, row: &[u8]) -> Taken
-        ensures { λ r. ⌜ (r ≡ takeOf self (now (row .entry)))
-            × (takeNumber (r .answer) ≡ takeRefusal self (now (row .entry)))
-            × (takeRaised (r .answer) ≡ ltb (self .dimension) ((r .receiver) .dimension)) ⌝ }
+        ensures { λ r. ⌜ (r ≡ takeOf self (now (row .entry))) × TakeTells self (now (row .entry)) r ⌝ }
     {
         let tested = self.take_refusal(row);
         if tested.refusal != 0 {
             return Taken {
                 receiver: self,
                 answer: TakeAnswer::Refused(tested.refusal),
+            };
+        }
+        if tested.zero {
+            return Taken {
+                receiver: self,
+                answer: TakeAnswer::Idle,
             };
         }
         self.taken_in(row, tested.vector)
@@ -264,8 +286,8 @@ impl Receiver {
 // Take on a lent receiver: copies it out, takes the row into the copy, and stores that back.
 pub fn take_lent(r: &mut Receiver, row: &[u8]) -> TakeAnswer
     ensures { λ answer. ⌜ (answer ≡ lentAnswer (now (r .entry)) (now (row .entry)))
-        × (takeNumber answer ≡ takeRefusal (now (r .entry)) (now (row .entry)))
-        × (takeRaised answer ≡ ltb ((now (r .entry)) .dimension) ((lentReceiver (now (r .entry)) (now (row .entry))) .dimension)) ⌝ }
+        × TakeTells (now (r .entry)) (now (row .entry))
+        (takenAs (lentReceiver (now (r .entry)) (now (row .entry))) answer) ⌝ }
     ensures { λ _. ⌜ now (r .exit) ≡ lentReceiver (now (r .entry)) (now (row .entry)) ⌝ }
 {
     let t = (*r).take(row);

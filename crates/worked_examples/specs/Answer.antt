@@ -2,9 +2,9 @@
 --   Call        == a call with its arguments; matrices and rows are flat, row by row; t is the numbering; a lent buffer is given as it is
 --                  before the call
 --   answer      == document 01's numbers for the call, by the definitions that the contracts cite: the refusal number (0 for none), then
---                  what the call answers (count; index; dimension, of Pool two; identifying vector; 1 for "raised"), then the receiver and
---                  the lent buffers afterwards; of the list program, all that it writes; of an index, its summands; of the line writer, 1
---                  where the piece fits, how far the buffer is then filled, and the buffer
+--                  what the call answers (count; index; dimension, of Pool two; identifying vector; 1 for "raised"; 1 for "idle"), then the
+--                  receiver and the lent buffers afterwards; of the list program, all that it writes; of an index, its summands; of the
+--                  line writer, 1 where the piece fits, how far the buffer is then filled, and the buffer
 --   Example     == a call and what it must answer
 --   lent size   == a buffer painted with 165s
 --   receiver, image == a receiver by its fields, entries of 0 after the given ones; and back
@@ -24,8 +24,9 @@ use Rattle.reduce.specs.Reduce.{reduceOf, reduceBuffer, reductionNumber, reduct
 use Rattle.receive.specs.Answer.{receivedNumber, receivedIndex, receivedDimension, receivedVector}
 use Rattle.receive.specs.Receive.{receiveOf}
 use Rattle.receive.specs.declared.Received.{Received}
-use Rattle.receiver.specs.Receiver.{startOf, startNumber, takeOf, takeNumber, takeRaised, lentReceiver, lentAnswer, closeOf}
+use Rattle.receiver.specs.Receiver.{startOf, startNumber, takeOf, takeNumber, takeRaised, takeIdle, lentReceiver, lentAnswer, closeOf}
 use Rattle.receiver.specs.declared.Receiver.{Receiver}
+use Rattle.receiver.specs.declared.TakeAnswer.{TakeAnswer}
 use Rattle.pool.specs.Pool.{poolOf, jointBuffer, commonBuffer, poolNumber, poolJoint, poolCommon}
 use Rattle.pandrwyg.specs.Exported.{exportedNumber, exportedBytes}
 
@@ -60,6 +61,10 @@ image r = r .q ∷ r .n ∷ r .k ∷ r .dimension ∷ r .entries
 abbrev received : Received → List ℕ
 received a = receivedNumber a ∷ receivedIndex a ∷ receivedDimension a ∷ receivedVector a ∷ []
 
+-- what Take tells
+abbrev takes : TakeAnswer → List ℕ
+takes a = takeNumber a ∷ bit (takeRaised a) ∷ bit (takeIdle a) ∷ []
+
 abbrev pub answer : Call → List ℕ
 answer (count q n k) = countNumber (countOf q n k) ∷ countValue (countOf q n k) ∷ []
 answer (draw q n k t i buffer) = drawRefusal q n k t i (length buffer) ∷ drawBuffer q n k t i buffer
@@ -72,9 +77,8 @@ answer (reduce q n r rows output) =
 answer (receive q n k t r rows) = received (receiveOf q n k t r rows)
 answer (receiveC q n k t r rows bytes) = exportedNumber q n k t r rows (length bytes) ∷ exportedBytes q n k t r rows bytes
 answer (start q n k) = startNumber (startOf q n k) ∷ image ((startOf q n k) .receiver)
-answer (takeValue r row) =
-    takeNumber ((takeOf r row) .answer) ∷ bit (takeRaised ((takeOf r row) .answer)) ∷ image ((takeOf r row) .receiver)
-answer (takeLent r row) = takeNumber (lentAnswer r row) ∷ bit (takeRaised (lentAnswer r row)) ∷ image (lentReceiver r row)
+answer (takeValue r row) = takes ((takeOf r row) .answer) ++ image ((takeOf r row) .receiver)
+answer (takeLent r row) = takes (lentAnswer r row) ++ image (lentReceiver r row)
 answer (close r t) = received (closeOf r t)
 answer (pool a b joint common) =
     let p = poolOf a b (length joint) (length common) in

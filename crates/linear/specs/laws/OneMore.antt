@@ -1,6 +1,7 @@
 -- One more row in a list of rows.
 --   reducedRows-more   == one more row is one row taken in
---   dimension-held, dimension-raised == it keeps the dimension where it is in the span, and raises it by one where it is not
+--   reducedRows-held   == it leaves the reduced rows as they are where it is in the span
+--   dimension-held, dimension-raised == so it keeps the dimension; and raises it by one where it is not in the span
 --   span-decide        == whether a row is in the span is decided
 -- Assumes nothing.
 use mathlib.Core.Path.{_≡_, ap, _∙_}
@@ -26,14 +27,16 @@ module _ (q : ℕ) (laws : Laws q) (n : ℕ) (rows : List (List ℕ)) (h : All (
   kept : Kept q n (reducedRows q n rows)
   kept = reducedRows-kept q laws n rows h
 
+  pub reducedRows-held : (v : List ℕ) → InSpan q n rows v → reducedRows q n (rows ++ (v ∷ [])) ≡ reducedRows q n rows
+  unfolding SameSpan
+  reducedRows-held v s =
+      reducedRows-more q n rows v
+      ∙ insert-held q laws n (reducedRows q n rows) (kept .rows) (kept .reduced) v (span-row q laws n rows h v s)
+      (reducedRows-span q laws n rows h v .1 s)
+
   pub dimension-held : (v : List ℕ) → InSpan q n rows v → dimension q n (rows ++ (v ∷ [])) ≡ dimension q n rows
-  unfolding dimension SameSpan
-  dimension-held v s = ap length (reducedRows-more q n rows v ∙ held)
-    where
-      held : insertRow q n (reducedRows q n rows) v ≡ reducedRows q n rows
-      held =
-          insert-held q laws n (reducedRows q n rows) (kept .rows) (kept .reduced) v (span-row q laws n rows h v s)
-          (reducedRows-span q laws n rows h v .1 s)
+  unfolding dimension
+  dimension-held v s = ap length (reducedRows-held v s)
 
   pub dimension-raised : (v : List ℕ) → Row q n v → (InSpan q n rows v → ⊥) → dimension q n (rows ++ (v ∷ [])) ≡ suc (dimension q n rows)
   unfolding dimension SameSpan

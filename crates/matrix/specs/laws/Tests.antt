@@ -1,7 +1,8 @@
 -- The tests of Matrix decide what they should; no part of the meaning.
 --   belowTo, below-start, below-more == the test of the first places, one place after the other, by the greatest entry
 --   below-none      == no entry is below 0
---   entries-below   == every entry is below q exactly where the test holds
+--   entries-below, entries-below-true == every entry is below q exactly where the test holds
+--   below-one, zeros-below == so the entries below 1 are zeros
 --   Clauses         == document 01's four clauses for row i with its pivot in column p
 --   clauses-of, clauses-true == a row's test holds exactly where they do
 --   reduced-exactly == a matrix of the right length with its entries below q is Reduced exactly where isReduced holds
@@ -14,7 +15,8 @@ use Prim.Native.Nat.{ℕ, suc, _*_, _<_, _≤_}
 use native.Mathlib.Omega.{arith}
 use borrow.Author.Tests.{lt-ltb, le-ltb, eq-eqb, ne-eqb, leb-false, eqb-false}
 use lib.Dec.{T, eqb, ltb, leb, ltb→lt, eqb→eq, leb→le}
-use lib.ListN.{length, getD}
+use lib.ListN.{length, getD, replicate, length-replicate, getD-replicate}
+use lib.Seq.{ext-getD}
 use Rattle.basics.specs.laws.Choice.{holds}
 use Rattle.basics.specs.laws.Order.{le-or-lt, same-or-not}
 use Rattle.basics.specs.All.{allBelow}
@@ -29,6 +31,18 @@ entries-below q m t place h = ltb→lt (getD m place 0) q (allBelow-at (length m
 pub entries-below-true : (q : ℕ) (m : List ℕ) → ((place : ℕ) → place < length m → getD m place 0 < q) → entriesBelow q m ≡ true
 unfolding entriesBelow
 entries-below-true q m h = allBelow-true (length m) (λ p. ltb (getD m p 0) q) (λ p l. lt-ltb (getD m p 0) q (h p l))
+
+pub below-one : (m : List ℕ) → entriesBelow 1 m ≡ true → m ≡ replicate (length m) 0
+below-one m t =
+    ext-getD 0 m (replicate (length m) 0) (sym (length-replicate (length m) 0))
+    (λ i h.
+    let z : getD m i 0 < 1 = entries-below 1 m (holds (entriesBelow 1 m) t) i h in
+    omega (arith, z, getD-replicate {A = ℕ} (length m) i 0 0 h))
+
+pub zeros-below : (n : ℕ) → entriesBelow 1 (replicate n 0) ≡ true
+zeros-below n =
+    entries-below-true 1 (replicate n 0)
+    (λ i h. let g : i < n = omega (arith, length-replicate {A = ℕ} n 0) in omega (arith, getD-replicate {A = ℕ} n i 0 0 g))
 
 -- the entries of the first i places are below q exactly where the greatest is, q being above 0
 abbrev pub belowTo : ℕ → List ℕ → ℕ → Bool

@@ -1,7 +1,7 @@
 -- `receiver::take_lent` meets its contract: a walk of its MIR, by hand. The borrow is opened and stays open over the call: the
 -- receiver is copied out, Take by value is called on the copy, of which the proof knows only its contract, and the receiver that it hands
 -- back is stored. The row's slice is passed as a copy.
-use mathlib.Core.Path.{_≡_, refl, ap, _∙_}
+use mathlib.Core.Path.{_≡_, refl, ap, subst}
 use Prim.Native.Nat.{ℕ}
 use mathlib.Core.List.{[], _∷_, List}
 use lib.ListN.{length}
@@ -44,8 +44,7 @@ use denote.Triple.Table.{entered, cited}
 use denote.Triple.Walked.{says, Stays, stay-ref, stay-none-slice, walkOf, AllGo, goes-ref, goes-none-slice, Walks, ends-at, walked}
 use denote.Triple.Walked.{walk-meets}
 use denote.Exit.{yes}
-use lib.Dec.{ltb}
-use Rattle.receiver.specs.Receiver.{takeRefusal, takeOf, takeNumber, takeRaised, lentReceiver, lentAnswer}
+use Rattle.receiver.specs.Receiver.{takeOf, lentReceiver, lentAnswer, takenAs, TakeTells}
 use Rattle.receiver.specs.declared.Receiver.{Receiver}
 use Rattle.receiver.specs.declared.Taken.{Taken}
 use Rattle.receiver.proofs.Receiver as T
@@ -123,23 +122,17 @@ module _ {M : Type 1} (𝓤 : URA M) (H : Heap 𝓤) (A : Atoms 𝓤) (W : Given
 
   -- what Take says of what it hands back
   abbrev Said : Taken → Type 0
-  Said t =
-      (t ≡ takeOf h (s .now))
-      × (takeNumber (t .answer) ≡ takeRefusal h (s .now))
-      × (takeRaised (t .answer) ≡ ltb (h .dimension) ((t .receiver) .dimension))
+  Said t = (t ≡ takeOf h (s .now)) × TakeTells h (s .now) t
 
   take-said : (t : Taken) → ent 𝓤 (ensured 𝓤 H A take.ended (take.clauses 𝓤 H A at-mem run) (κ′, tt) (h, (s, tt)) tt t) (fact 𝓤 (Said t))
   take-said t = exE 𝓤 _ (λ ws. snd∗ 𝓤 (sem 𝓤 H A (lasts take.ended (κ′, tt) (h, (s, tt)) ws)) (fact 𝓤 (Said t)))
 
   -- what is then to be said of the answer
   answered : (t : Taken) → Said t
-      → (t .answer ≡ lentAnswer h (s .now))
-      × (takeNumber (t .answer) ≡ takeRefusal h (s .now))
-      × (takeRaised (t .answer) ≡ ltb (h .dimension) ((lentReceiver h (s .now)) .dimension))
+      → (t .answer ≡ lentAnswer h (s .now)) × TakeTells h (s .now) (takenAs (lentReceiver h (s .now)) (t .answer))
   answered t e = (
     ap (λ y. y .answer) (e .0),
-    e .1,
-    e .2 ∙ ap (λ y. ltb (h .dimension) ((y .receiver) .dimension)) (e .0),
+    subst (λ y. TakeTells h (s .now) (takenAs (y .receiver) (t .answer))) (e .0) (e .1),
   )
 
   exits : (t : Taken) (vs : List Val) → Is U.the-row t vs → Said t

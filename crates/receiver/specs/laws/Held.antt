@@ -2,10 +2,11 @@
 --   held-kept       == the rows of a Sound receiver are rows, reduced when joined
 --   held-again      == a Sound receiver is the one that holds its rows
 --   holding-size, holding-used, holding-rows, holding-sound == what the receiver that holds some rows has, and that it is Sound
+--   holding-held    == a row more, in the span of the others, makes no other receiver
 --   holding-none    == the receiver that holds no rows is empty
 -- Assumes nothing.
 use mathlib.Core.Path.{_≡_, refl, ap, ap₂, sym, _∙_, subst, subst₂}
-use mathlib.Core.List.{List, [], _++_}
+use mathlib.Core.List.{List, [], _∷_, _++_}
 use Prim.Native.Nat.{ℕ, _+_, _*_, _-_, _≤_, _<_}
 use native.Mathlib.Omega.{arith}
 use lib.ListN.{length, getD, drop, replicate, length-append, length-drop, take-append-drop, length-replicate, getD-replicate}
@@ -15,11 +16,12 @@ use Rattle.field.specs.laws.Decide.{laws}
 use Rattle.settings.specs.Settings.{settingsRefusal}
 use Rattle.settings.specs.laws.Accepted.{accepted}
 use Rattle.matrix.specs.Matrix.{Reduced}
-use Rattle.linear.specs.Span.{All, Row, rowsOf}
+use Rattle.linear.specs.Span.{All, Row, InSpan, rowsOf}
 use Rattle.linear.specs.Eliminate.{join, insertRows, reducedRows, reducedOf, dimension}
 use Rattle.linear.specs.laws.FlatMatrix.{rows-length, join-rows}
 use Rattle.linear.specs.laws.FlatRows.{rows-joined, join-taken}
 use Rattle.linear.specs.laws.InsertMany.{Kept}
+use Rattle.linear.specs.laws.OneMore.{reducedRows-held}
 use Rattle.linear.specs.laws.ReducedOf.{reducedRows-kept, reducedOf-reduced, dimension-le}
 use Rattle.linear.specs.laws.ReducedRows.{reduced-rows, rows-sized}
 use Rattle.linear.specs.laws.SameMatrix.{reducedRows-again}
@@ -125,6 +127,12 @@ module _ (q n k : ℕ) (settings : settingsRefusal q n k ≡ 0) (rows : List (Li
           ap (λ x. getD (padded 256 (reducedOf q n rows)) x 0) e
           ∙ getD-append-add (reducedOf q n rows) (replicate (256 - length (reducedOf q n rows)) 0) (i - length (reducedOf q n rows)) 0
           ∙ getD-replicate (256 - length (reducedOf q n rows)) (i - length (reducedOf q n rows)) 0 0 (omega (arith, sized))
+
+  pub holding-held : (v : List ℕ) → InSpan q n rows v → holding q n k (rows ++ (v ∷ [])) ≡ holding q n k rows
+  unfolding holding dimension reducedOf
+  holding-held v s =
+      ap (λ (x : List (List ℕ)). record { entries = padded 256 (join x); q = q; n = n; k = k; dimension = length x })
+      (reducedRows-held q law n rows h v s)
 
 pub holding-none : (q n k : ℕ) → empty q n k ≡ holding q n k []
 unfolding holding padded reducedOf dimension reducedRows insertRows join

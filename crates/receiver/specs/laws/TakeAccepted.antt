@@ -1,15 +1,17 @@
 -- Calls on a receiver that are not refused, and what the answers tell; no part of the meaning.
 --   TakeAccepted, CloseAccepted == what holds where none refuses
 --   take-accepted, take-unrefused, close-accepted, close-unrefused == it is so exactly there
+--   accepted-row                == a row that is not refused is a row
+--   zero-idle                   == a zero row taken in leaves the receiver, with the answer "idle"
 --   take-told, close-told       == the numbers and values that an answer of Take or Close tells
 -- Assumes nothing.
-use mathlib.Core.Path.{_≡_, refl, sym, _∙_, subst}
-use mathlib.Core.Bool.{Bool, true, false}
-use mathlib.Core.List.{List, [], _∷_}
+use mathlib.Core.Path.{_≡_, refl, ap, ap₂, sym, _∙_, subst}
+use mathlib.Core.Bool.{Bool, true, false, _&&_}
+use mathlib.Core.List.{List, [], _∷_, _++_}
 use Prim.Native.Nat.{ℕ}
 use native.Mathlib.Decide.{ℕ-discrete}
 use native.Mathlib.Omega.{arith}
-use borrow.Author.Tests.{eq-eqb, eqb-true, le-ltb}
+use borrow.Author.Tests.{eq-eqb, ne-eqb, eqb-true, le-ltb, ltb-false}
 use lib.Dec.{T, eqb, ltb}
 use lib.ListN.{length}
 use Rattle.basics.specs.Choice.{pick}
@@ -17,15 +19,21 @@ use Rattle.basics.specs.laws.Choice.{holds}
 use Rattle.refusal.specs.Refusal.{receiverRefusal, lengthRefusal, entryRefusal, numberingRefusal, refuseUnless}
 use Rattle.refusal.specs.laws.First.{test-zero, test-passed, first-none, kept, done}
 use Rattle.matrix.specs.Matrix.{entriesBelow}
+use Rattle.matrix.specs.laws.Tests.{entries-below}
+use Rattle.linear.specs.Span.{Row, InSpan}
+use Rattle.linear.specs.Eliminate.{dimension}
+use Rattle.linear.specs.laws.Every.{all-of}
 use Rattle.numbering.specs.Numbering.{isNumbering}
 use Rattle.receive.specs.Answer.{Told}
 use Rattle.receive.specs.laws.Space.{space-told, refused-told}
 use Rattle.receive.specs.declared.Received.{Received}
-use Rattle.receiver.specs.Receiver.{used, wellFormed, holding, takeRefusal, takenIn, takeOf, closeRefusal, closeOf, takeNumber}
-use Rattle.receiver.specs.Receiver.{takeRaised}
+use Rattle.receiver.specs.Receiver.{used, wellFormed, heldRows, holding, isZero, takeRefusal, takenIn, takeOf, closeRefusal, closeOf}
+use Rattle.receiver.specs.Receiver.{takenAs, takeNumber, takeRaised, takeIdle, TakeTells}
+use Rattle.receiver.specs.laws.Sound.{Sound, sound}
+use Rattle.receiver.specs.laws.Untouched.{spanned-untouched, zero-spanned, held-spanned}
 use Rattle.receiver.specs.declared.Receiver.{Receiver}
 use Rattle.receiver.specs.declared.Taken.{Taken}
-use Rattle.receiver.specs.declared.TakeAnswer.the-variants.{Raised, Held, Refused}
+use Rattle.receiver.specs.declared.TakeAnswer.the-variants.{Raised, Held, Idle}
 
 pub record TakeAccepted (r : Receiver) (row : List ℕ) : Type 0 where
   pub formed : wellFormed r ≡ true
@@ -45,38 +53,86 @@ module _ (r : Receiver) (row : List ℕ) where
         below = holds (entriesBelow (r .q) row) (test-zero (entriesBelow (r .q) row) entryRefusal [] tt (l .1) .0);
       }
 
+  pub accepted-row : TakeAccepted r row → Row (r .q) (r .n) row
+  accepted-row a = (a .sized, all-of 0 row (entries-below (r .q) row (a .below)))
+
   pub take-unrefused : wellFormed r ≡ true → length row ≡ r .n → entriesBelow (r .q) row ≡ true → takeRefusal r row ≡ 0
   unfolding takeRefusal
   take-unrefused w l e =
       test-passed _ _ _ w ∙ test-passed _ _ _ (eq-eqb (length row) (r .n) l) ∙ test-passed _ _ _ e ∙ first-none
 
-  -- the case of a row taken in tells whether the dimension grew
-  raised-told : (b : Bool) → takeRaised (pick b Raised Held) ≡ b
-  raised-told true = refl
-  raised-told false = refl
+  -- what the answers for a row taken in tell, where a zero row does not let the dimension grow
+  accepted-number : (zero grew : Bool) → takeNumber (pick zero Idle (pick grew Raised Held)) ≡ 0
+  accepted-number true grew = refl
+  accepted-number false true = refl
+  accepted-number false false = refl
 
-  unrefused-told : (b : Bool) → takeNumber (pick b Raised Held) ≡ 0
-  unrefused-told true = refl
-  unrefused-told false = refl
+  accepted-raised : (zero grew : Bool) → (zero ≡ true → grew ≡ false) → takeRaised (pick zero Idle (pick grew Raised Held)) ≡ grew
+  accepted-raised true grew kept = sym (kept refl)
+  accepted-raised false true kept = refl
+  accepted-raised false false kept = refl
 
-  pub take-told : (a : Taken) → a ≡ takeOf r row
-      → (takeNumber (a .answer) ≡ takeRefusal r row) × (takeRaised (a .answer) ≡ ltb (r .dimension) ((a .receiver) .dimension))
-  unfolding takeOf takenIn holding
-  take-told a e = cases (ℕ-discrete (takeRefusal r row) 0)
-    where
-      grew : Bool
-      grew = ltb (r .dimension) (((takenIn r row) .receiver) .dimension)
+  accepted-idle : (zero grew : Bool) → takeIdle (pick zero Idle (pick grew Raised Held)) ≡ zero
+  accepted-idle true grew = refl
+  accepted-idle false true = refl
+  accepted-idle false false = refl
 
-      cases : Dec (takeRefusal r row ≡ 0)
-          → (takeNumber (a .answer) ≡ takeRefusal r row) × (takeRaised (a .answer) ≡ ltb (r .dimension) ((a .receiver) .dimension))
-      cases (yes z) =
-          subst (λ x. (takeNumber (x .answer) ≡ takeRefusal r row)
-          × (takeRaised (x .answer) ≡ ltb (r .dimension) ((x .receiver) .dimension)))
-          (done _ _ _ z ∙ sym e) (unrefused-told grew ∙ sym z, raised-told grew)
-      cases (no z) =
-          subst (λ x. (takeNumber (x .answer) ≡ takeRefusal r row)
-          × (takeRaised (x .answer) ≡ ltb (r .dimension) ((x .receiver) .dimension)))
-          (kept _ _ _ z ∙ sym e) (refl, sym (le-ltb (r .dimension) _ (omega arith)))
+  module _ (size : length (r .entries) ≡ 256) where
+    -- a row that is not refused
+    taken-told : takeRefusal r row ≡ 0 → TakeTells r row (takenIn r row)
+    unfolding takenIn holding
+    taken-told z =
+        record {
+          number = accepted-number (isZero row) grew ∙ sym z;
+          raised = raised;
+          idle = accepted-idle (isZero row) grew ∙ ap (λ b. b && isZero row) (sym (eq-eqb (takeRefusal r row) 0 z));
+          untouched = λ e. left (held-spanned r size s row (accepted-row a) (ltb-false (r .dimension) _ (sym raised ∙ e)));
+        }
+      where
+        a : TakeAccepted r row
+        a = take-accepted z
+
+        s : Sound r
+        s = sound r size (a .formed)
+
+        -- a row in the span leaves the receiver
+        left : InSpan (r .q) (r .n) (heldRows r) row → (takenIn r row) .receiver ≡ r
+        left i = spanned-untouched r size s row i
+
+        grew : Bool
+        grew = ltb (r .dimension) (((takenIn r row) .receiver) .dimension)
+
+        still : isZero row ≡ true → grew ≡ false
+        still e =
+            let same = ap (λ x. x .dimension) (left (zero-spanned r size s row (a .sized) e)) in
+            le-ltb (r .dimension) (((takenIn r row) .receiver) .dimension) (omega (arith, same))
+
+        raised : takeRaised ((takenIn r row) .answer) ≡ grew
+        raised = accepted-raised (isZero row) grew still
+
+    -- a zero row leaves the receiver, and is idle
+    pub zero-idle : takeRefusal r row ≡ 0 → isZero row ≡ true → takenAs r Idle ≡ takenIn r row
+    unfolding takenIn
+    zero-idle z e =
+        let a = take-accepted z in
+        let s = sound r size (a .formed) in
+        ap₂ takenAs (sym (spanned-untouched r size s row (zero-spanned r size s row (a .sized) e)))
+        (ap (λ b. pick b Idle (pick (ltb (r .dimension) (dimension (r .q) (r .n) (heldRows r ++ (row ∷ [])))) Raised Held)) (sym e))
+
+    pub take-told : (a : Taken) → a ≡ takeOf r row → TakeTells r row a
+    unfolding takeOf
+    take-told a e = cases (ℕ-discrete (takeRefusal r row) 0)
+      where
+        cases : Dec (takeRefusal r row ≡ 0) → TakeTells r row a
+        cases (yes z) = subst (TakeTells r row) (done _ _ _ z ∙ sym e) (taken-told z)
+        cases (no z) =
+            subst (TakeTells r row) (kept _ _ _ z ∙ sym e)
+            (record {
+              number = refl;
+              raised = sym (le-ltb (r .dimension) _ (omega arith));
+              idle = sym (ap (λ b. b && isZero row) (ne-eqb (takeRefusal r row) 0 z));
+              untouched = λ _. refl;
+            })
 
 pub record CloseAccepted (r : Receiver) (t : ℕ) : Type 0 where
   pub formed : wellFormed r ≡ true

@@ -2,9 +2,11 @@
 --   lent-fits, lent-size     == the n·n entries that are lent
 --   lent-kept, lent-held     == they hold the receiver's rows, with zeros after them
 --   lent-leads               == the leads of these rows are the pivots of what the receiver uses
---   taken-raised, taken-held == what the row reduction leaves in them is the receiver with the row taken in, by the answer
+--   taken-raised, taken-held == what the row reduction leaves in them is the receiver with the row taken in, by the answer, the row not
+--                               being zero
 -- Assumes nothing.
 use mathlib.Core.Path.{_≡_, ap, ap₂, sym, _∙_, subst}
+use mathlib.Core.Bool.{false}
 use mathlib.Core.List.{List, [], _∷_, _++_, append-assoc}
 use Prim.Native.Nat.{ℕ, _+_, _*_, _-_, _≤_, _<_}
 use native.Mathlib.Nat.{mul-le-mul-right}
@@ -29,12 +31,12 @@ use Rattle.reduction.specs.laws.Leads.{leads-known}
 use Rattle.reduction.specs.Padded.{padded}
 use Rattle.reduction.specs.laws.Parts.{rows-front}
 use Rattle.reduction.specs.laws.Steps.{leads}
-use Rattle.receiver.specs.Receiver.{used, heldRows, holding, takenIn}
+use Rattle.receiver.specs.Receiver.{used, heldRows, holding, isZero, takenIn, takenAs}
 use Rattle.receiver.specs.laws.Sound.{Sound, used-fit}
 use Rattle.receiver.specs.laws.Held.{settings-laws, held-kept, held-join, held-length, rest-zero}
 use Rattle.receiver.specs.declared.Receiver.{Receiver}
 use Rattle.receiver.specs.declared.Taken.{Taken}
-use Rattle.receiver.specs.declared.TakeAnswer.the-variants.{Raised, Held}
+use Rattle.receiver.specs.declared.TakeAnswer.the-variants.{Raised, Held, Idle}
 
 module _ (r : Receiver) (size : length (r .entries) ≡ 256) (s : Sound r) where
   -- the entries that are lent to the reduction
@@ -142,19 +144,22 @@ module _ (r : Receiver) (size : length (r .entries) ≡ 256) (s : Sound r) where
           (replicate-append-replicate (r .n * r .n - length (join out)) (256 - r .n * r .n) 0 ∙ ap (λ x. replicate x 0) more)
           ∙ ap (λ x. padded 256 (join x)) (sym new)
 
-      taken-in : _≡_ {A = Taken} (record { receiver = left; answer = pick (ltb (r .dimension) d) Raised Held }) (takenIn r row)
-      unfolding takenIn holding dimension reducedOf
-      taken-in =
-          ap₂
-          (λ (e : List ℕ) (x : ℕ).
-          record {
-            receiver = record { entries = e; q = r .q; n = r .n; k = r .k; dimension = x };
-            answer = pick (ltb (r .dimension) x) Raised Held;
-          })
-          entries dimensions
+      -- the dimension with the row
+      abbrev next : ℕ
+      next = dimension (r .q) (r .n) (heldRows r ++ (row ∷ []))
 
-      pub taken-raised : r .dimension < d → _≡_ {A = Taken} (record { receiver = left; answer = Raised }) (takenIn r row)
-      taken-raised h = ap (λ b. record { receiver = left; answer = pick b Raised Held }) (sym (lt-ltb (r .dimension) d h)) ∙ taken-in
+      module _ (nonzero : isZero row ≡ false) where
+        taken-in : _≡_ {A = Taken} (takenAs left (pick (ltb (r .dimension) d) Raised Held)) (takenIn r row)
+        unfolding takenIn holding dimension reducedOf
+        taken-in =
+            ap₂
+            (λ (e : List ℕ) (x : ℕ).
+            takenAs (record { entries = e; q = r .q; n = r .n; k = r .k; dimension = x }) (pick (ltb (r .dimension) x) Raised Held))
+            entries dimensions
+            ∙ ap (λ b. takenAs ((takenIn r row) .receiver) (pick b Idle (pick (ltb (r .dimension) next) Raised Held))) (sym nonzero)
 
-      pub taken-held : d ≤ r .dimension → _≡_ {A = Taken} (record { receiver = left; answer = Held }) (takenIn r row)
-      taken-held h = ap (λ b. record { receiver = left; answer = pick b Raised Held }) (sym (le-ltb (r .dimension) d h)) ∙ taken-in
+        pub taken-raised : r .dimension < d → takenAs left Raised ≡ takenIn r row
+        taken-raised h = ap (λ b. takenAs left (pick b Raised Held)) (sym (lt-ltb (r .dimension) d h)) ∙ taken-in
+
+        pub taken-held : d ≤ r .dimension → takenAs left Held ≡ takenIn r row
+        taken-held h = ap (λ b. takenAs left (pick b Raised Held)) (sym (le-ltb (r .dimension) d h)) ∙ taken-in

@@ -127,7 +127,8 @@ module _ (q n k : ℕ) (settings : settingsRefusal q n k ≡ 0) where
       cases false f =
           let z = take-misfits q n k settings rows h row f in
           let t = take-kept q n k settings rows h row (λ g. ⊎-elim (λ w. omega arith) (λ w. omega arith) z) in
-          step-misfits rows row cs _ f (t .0) (⊎-elim (λ w. inl (t .1 ∙ w)) (λ w. inr (t .1 ∙ w)) z) (next rows h)
+          let e = ap (λ x. takeNumber (x .answer)) t in
+          step-misfits rows row cs _ f (ap (λ x. x .receiver) t) (⊎-elim (λ w. inl (e ∙ w)) (λ w. inr (e ∙ w)) z) (next rows h)
 
   pub course : (cs : List Call) (rows : List (List ℕ)) → All (Row q n) rows → Course q n k rows cs
   unfolding after accepted offered fitting

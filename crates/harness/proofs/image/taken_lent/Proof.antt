@@ -44,8 +44,7 @@ use denote.Triple.Spec.{Meets, tripleOf}
 use denote.Triple.Table.{entered, cited}
 use denote.Triple.Walked.{Stays, stay-none, stay-none-slice, walkOf, AllGo, goes-none, goes-none-slice, Walks, ends-at, walked, walk-meets}
 use denote.Exit.{yes}
-use lib.Dec.{ltb}
-use Rattle.receiver.specs.Receiver.{takeRefusal, takeNumber, takeRaised, lentReceiver, lentAnswer}
+use Rattle.receiver.specs.Receiver.{lentReceiver, lentAnswer, takenAs, TakeTells}
 use Rattle.receiver.specs.declared.Receiver.{Receiver}
 use Rattle.receiver.specs.declared.Taken.{Taken}
 use Rattle.receiver.specs.declared.TakeAnswer.{TakeAnswer}
@@ -77,13 +76,10 @@ vals = LL.vals T.the-type T′.the-laws
 abbrev handed : Taken → Val
 handed = LL.val U.the-type U′.the-laws
 
--- what is handed back, and that its parts make it
-abbrev both : Receiver → TakeAnswer → Taken
-both y t = record { receiver = y; answer = t }
-
+-- the parts of what is handed back make it
 both-is : (y : Receiver) (t : TakeAnswer) (us : List Val) → Is T.the-row y (vals y) → Is S.the-row t us
-    → Is U.the-row (both y t) (handed (both y t) ∷ [])
-both-is y t us y-is t-is = LL.owes U.the-type U′.the-laws (both y t) (
+    → Is U.the-row (takenAs y t) (handed (takenAs y t) ∷ [])
+both-is y t us y-is t-is = LL.owes U.the-type U′.the-laws (takenAs y t) (
   y-is,
   (
     subst (Is S.the-row t)
@@ -165,11 +161,7 @@ module _ {M : Type 1} (𝓤 : URA M) (H : Heap 𝓤) (A : Atoms 𝓤) (W : Given
       (ex 𝓤 (λ (y : Receiver). A .res δ (T.the-row .coded .code y)))
   leaves b ν δ t = exE 𝓤 _ (λ ws.
       let L : SProp 𝓤 = sem 𝓤 H A (lasts take-lent.ended (ν ∷ [], (κ, tt)) (ref b δ, (s, tt)) ws) in
-      let said : Type 0 =
-      (t ≡ lentAnswer h (s .now))
-      × (takeNumber t ≡ takeRefusal h (s .now))
-      × (takeRaised t ≡ ltb (h .dimension) ((lentReceiver h (s .now)) .dimension))
-      in
+      let said : Type 0 = (t ≡ lentAnswer h (s .now)) × TakeTells h (s .now) (takenAs (lentReceiver h (s .now)) t) in
       let E : SProp 𝓤 = sep 𝓤 (fact 𝓤 said) (fact 𝓤 (ws .0 ≡ lentReceiver h (s .now))) in
       let R : SProp 𝓤 = A .res δ (T.the-row .coded .code (ws .0)) in
       via 𝓤 R (via 𝓤 L (fst∗ 𝓤 L E) (fst∗ 𝓤 R (sem 𝓤 H A (fsep ftrue ftrue)))) (exI 𝓤
@@ -230,13 +222,13 @@ module _ {M : Type 1} (𝓤 : URA M) (H : Heap 𝓤) (A : Atoms 𝓤) (W : Given
         assigns ! (of-opd ! (load ! (from ! (stop !)) (look ! 0 refl))) (from ! (stop !))
         (init ! 3 refl (LL.lawful T.the-type T′.the-laws 𝓤 H A W .typed y _ y-is .0)) $
         assigns ! (agg ! (and-then ! (load ! (from ! (stop !)) (look ! 3 refl)) (and-then ! (load ! (from ! (stop !)) (look ! 7 refl))
-        (no-more !)))) (from ! (stop !)) (init ! 14 refl (LL.lawful U.the-type U′.the-laws 𝓤 H A W .typed (both y t) _
+        (no-more !)))) (from ! (stop !)) (init ! 14 refl (LL.lawful U.the-type U′.the-laws 𝓤 H A W .typed (takenAs y t) _
         (both-is y t (u ∷ []) y-is is) .0)) $
         returns ! (look ! 14 refl) $ forget ! 0 refl $ forget ! 3 refl $ forget ! 5 refl $ forget ! 7 refl $ forget ! 10 refl $
         forget ! 12 refl $ forget ! 14 refl $
         move ! (14 ∷ 15 ∷ []) $ free1 ! $ move ! (12 ∷ 13 ∷ []) $ free1 ! $ move ! (10 ∷ 11 ∷ []) $ free1 ! $ move ! (0 ∷ 9 ∷ []) $
         free1 ! $ move ! (6 ∷ 7 ∷ []) $ free1 ! $ move ! (4 ∷ 5 ∷ []) $ free1 ! $ move ! (2 ∷ 3 ∷ []) $ free1 ! $ free0 ! $
-        by ! (exits (both y t) (both-is y t (u ∷ []) y-is is) was)))))))))))))))
+        by ! (exits (takenAs y t) (both-is y t (u ∷ []) y-is is) was)))))))))))))))
 
 module _ {M : Type 1} (𝓤 : URA M) (H : Heap 𝓤) (A : Atoms 𝓤) (W : Given 𝓤 H A) (at-mem : Memory → SProp 𝓤) (run : Routine → Fun 𝓤) where
   lent-walks : (C : Calls 𝓤 H) (Λ : Loops 𝓤 H) → FmC 𝓤 H (W .laws) C → Triple 𝓤 (C #take-lent) (Lent 𝓤 H A at-mem run)

@@ -1,9 +1,16 @@
 -- `receiver::Receiver::take_refusal` meets its contract: the tests in their order, each passed or answered.
 use mathlib.Core.Path.{_≡_, _∙_, sym}
 use mathlib.Core.Bool.{true}
-use borrow.Author.Tests.{not-true, not-false, eq-eqb, ne-eqb}
+use Prim.Native.Nat.{_<_}
+use native.Mathlib.Omega.{arith}
+use borrow.Author.Tests.{not-true, not-false, eq-eqb, ne-eqb, lt-ltb, le-ltb}
+use lib.Dec.{ltb}
+use lib.ListN.{length}
 use Rattle.refusal.specs.laws.First.{test-refused, test-passed}
+use Rattle.matrix.specs.Matrix.{entriesBelow}
 use Rattle.receiver.specs.Receiver.{wellFormed, takeRefusal}
+use Rattle.receiver.specs.laws.Sound.{sound}
+use Rattle.receiver.specs.laws.Held.{settings-laws}
 use Rattle.receiver.specs.laws.TakeAccepted.{take-unrefused}
 use borrow.Author.Needs.{needs}
 use Rattle.receiver.proofs.Receiver.take_refusal.Statement.{statement}
@@ -11,6 +18,15 @@ use Rattle.receiver.proofs.Receiver.take_refusal.Tie as tie
 
 formed : (c : tie.Else1) → wellFormed (c .before .before .before .before .before .before .args .self) ≡ true
 formed c = sym (c .before .before .well-formed .ensures .0) ∙ not-false _ (c .if1 .left)
+
+whole : (c : tie.Start) → length (c .args .self .entries) ≡ 256
+whole c = search needs
+
+-- no entry of a formed receiver's field is below 0
+positive : (c : tie.Else1) → 0 < c .before .before .before .before .before .before .args .self .q
+positive c =
+    let s = c .before .before .before .before .before .before in
+    omega (arith, settings-laws _ _ _ (sound _ (whole s) (formed c) .settings) .one-below)
 
 slice-aggregate-well-formed : tie.Need-slice-aggregate-well-formed
 slice-aggregate-well-formed c = search needs
@@ -21,38 +37,51 @@ well-formed-requires c κs = search needs
 returns : tie.Need-returns
 unfolding takeRefusal
 returns c =
-    let f = c .before .before .well-formed .ensures in (sym (test-refused _ _ _ tt (sym (f .0) ∙ not-true _ (c .if1 .taken))), f .1)
+    let f = c .before .before .well-formed .ensures in
+    (sym (test-refused _ _ _ tt (sym (f .0) ∙ not-true _ (c .if1 .taken))), f .1, λ z. absurd (omega arith))
 
 returns-2 : tie.Need-returns-2
 unfolding takeRefusal
 returns-2 c = (
   sym (test-passed _ _ _ (formed (c .before .before)) ∙ test-refused _ _ _ tt (ne-eqb _ _ (c .if2 .taken))),
   c .before .before .before .before .well-formed .ensures .1,
+  λ z. absurd (omega arith),
 )
 
-entries-below-requires : tie.Need-entries-below-requires
-entries-below-requires c κs = search needs
+greatest-requires : tie.Need-greatest-requires
+greatest-requires c κs = search needs
+
+cast-if3 : tie.Need-cast-if3
+cast-if3 c = search needs
+
+-- what the greatest entry tells of the row
+below : (c : tie.After-greatest) → let a = c .before .before .before .before .before .before .before .before .before .args in
+    ltb (c .greatest .result) (a .self .q) ≡ entriesBelow (a .self .q) (a .row .now)
+below c = c .greatest .ensures _ (positive (c .before .before .before))
 
 returns-3 : tie.Need-returns-3
 unfolding takeRefusal
 returns-3 c =
-    let b = c .before .before in (
+    let g = c .before .before in
+    let b = g .before in (
       sym
           (test-passed _ _ _ (formed (b .before .before))
           ∙ test-passed _ _ _ (eq-eqb _ _ (b .if2 .left))
-          ∙ test-refused _ _ _ tt (sym (c .before .entries-below .ensures) ∙ not-true _ (c .if3 .taken))),
+          ∙ test-refused _ _ _ tt (sym (below g) ∙ le-ltb _ _ (c .if3 .taken))),
       b .before .before .before .before .well-formed .ensures .1,
+      λ z. absurd (omega arith),
     )
 
 returns-4 : tie.Need-returns-4
 returns-4 c =
-    let b = c .before .before in (
-      sym (take-unrefused _ _ (formed (b .before .before)) (b .if2 .left)
-          (sym (c .before .entries-below .ensures) ∙ not-false _ (c .if3 .left))),
+    let g = c .before .before in
+    let b = g .before in (
+      sym (take-unrefused _ _ (formed (b .before .before)) (b .if2 .left) (sym (below g) ∙ lt-ltb _ _ (c .if3 .left))),
       b .before .before .before .before .well-formed .ensures .1,
+      λ _. g .greatest .ensures 1 (omega arith),
     )
 
 pub take-refusal-spec : {M : Type 1} → statement M
 take-refusal-spec =
     tie.close
-    (tie.spec slice-aggregate-well-formed well-formed-requires returns returns-2 entries-below-requires returns-3 returns-4)
+    (tie.spec slice-aggregate-well-formed well-formed-requires returns returns-2 greatest-requires cast-if3 returns-3 returns-4)

@@ -5,11 +5,10 @@ use native.Mathlib.Omega.{arith}
 use lib.ListN.{length}
 use Rattle.settings.specs.laws.Accepted.{Accepted}
 use Rattle.settings.specs.laws.Accepted.{accepted}
-use Rattle.matrix.specs.laws.Tests.{entries-below}
 use Rattle.linear.specs.Span.{Row}
-use Rattle.linear.specs.laws.Every.{all-of}
 use Rattle.receiver.specs.Receiver.{used}
 use Rattle.receiver.specs.laws.Sound.{Sound, sound}
+use Rattle.receiver.specs.laws.TakeAccepted.{accepted-row}
 use Rattle.receiver.specs.laws.TakenIn.{lent-fits, lent-size, lent-kept, lent-held, lent-leads, taken-raised, taken-held}
 use borrow.Author.Needs.{needs}
 use Rattle.receiver.proofs.Receiver.taken_in.Statement.{statement}
@@ -25,9 +24,7 @@ fits : (c : tie.Start) → let r = c .args .self in Accepted (r .q) (r .n) (r .k
 fits c = accepted _ _ _ (safe c .settings)
 
 row-here : (c : tie.Start) → let r = c .args .self in Row (r .q) (r .n) (c .args .row .now)
-row-here c =
-    let r = c .args .self in
-    (c .pre .0 .sized, all-of 0 (c .args .row .now) (entries-below (r .q) (c .args .row .now) (c .pre .0 .below)))
+row-here c = accepted-row _ _ (c .pre .0)
 
 mul-size : tie.Need-mul-size
 mul-size c = omega (arith, lent-fits _ (whole (c .before)) (safe (c .before)))
@@ -40,7 +37,7 @@ pivot-columns-requires c κs =
     let b = c .before .before .before in
     let r = b .args .self in
     let n = fits b .narrow in
-    (n, omega (arith, n, safe b .fits), (r .q, (used r, (safe b .reduced, b .pre .1))))
+    (n, omega (arith, n, safe b .fits), (r .q, (used r, (safe b .reduced, b .pre .2))))
 
 array-borrow-prefix-entries : tie.Need-array-borrow-prefix-entries
 array-borrow-prefix-entries c =
@@ -62,7 +59,7 @@ insert-requires c κs =
       (
         omega (arith, n),
         lent-leads _ (whole b) (safe b) _ (omega (arith, n, safe b .fits, f .pivot-columns .kept))
-            (f .pivot-columns .ensures _ _ (safe b .reduced) (b .pre .1)),
+            (f .pivot-columns .ensures _ _ (safe b .reduced) (b .pre .2)),
         omega (arith, n),
       ),
     )
@@ -71,13 +68,15 @@ returns : tie.Need-returns
 returns c =
     let i = c .before .before .before in
     let b = i .before .before .before .before .before .before .before .before in
-    taken-raised (b .args .self) (whole b) (safe b) _ (row-here b) _ _ (i .insert .ensures .0) (i .insert .ensures .1 .0) (c .if1 .taken)
+    taken-raised (b .args .self) (whole b) (safe b) _ (row-here b) _ _ (i .insert .ensures .0) (i .insert .ensures .1 .0) (b .pre .1)
+    (c .if1 .taken)
 
 returns-2 : tie.Need-returns-2
 returns-2 c =
     let i = c .before .before .before in
     let b = i .before .before .before .before .before .before .before .before in
-    taken-held (b .args .self) (whole b) (safe b) _ (row-here b) _ _ (i .insert .ensures .0) (i .insert .ensures .1 .0) (c .if1 .left)
+    taken-held (b .args .self) (whole b) (safe b) _ (row-here b) _ _ (i .insert .ensures .0) (i .insert .ensures .1 .0) (b .pre .1)
+    (c .if1 .left)
 
 pub taken-in-spec : {M : Type 1} → statement M
 taken-in-spec =

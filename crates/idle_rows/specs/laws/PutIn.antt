@@ -1,0 +1,110 @@
+-- Zero rows put into a list of calls; no part of the meaning.
+--   zero-untouched  == a zero row, of whatever length, leaves any receiver
+--   take-size       == Take hands back a receiver of 256 entries
+--   put-in          == so a list of calls with zero rows put in leaves the receiver that the list without them leaves
+--   put-value, put-lent == a zero row put in at one place
+--   put-in-fitting  == what holds of the zero row and of the rows that fit holds with zero rows put in
+-- Assumes nothing.
+use mathlib.Core.Path.{_≡_, refl, ap, sym, _∙_}
+use mathlib.Core.Bool.{Bool, true, false, _&&_}
+use mathlib.Core.List.{List, [], _∷_, _++_}
+use Prim.Native.Nat.{ℕ}
+use native.Mathlib.Decide.{ℕ-discrete}
+use borrow.Author.Tests.{eq-eqb}
+use lib.ListN.{length}
+use Rattle.basics.specs.Choice.{pick}
+use Rattle.basics.specs.laws.Choice.{holds}
+use Rattle.refusal.specs.laws.First.{kept, done}
+use Rattle.matrix.specs.laws.Tests.{zeros-below}
+use Rattle.linear.specs.Span.{All, none, more}
+use Rattle.linear.specs.laws.Every.{all-append, all-head, all-tail}
+use Rattle.receiver.specs.Receiver.{heldRows, isZero, takeRefusal, takenIn, takeOf, takeNumber, takeRaised, takeIdle, TakeTells}
+use Rattle.receiver.specs.laws.Sound.{sound}
+use Rattle.receiver.specs.laws.Held.{held-kept, holding-size}
+use Rattle.receiver.specs.laws.TakeAccepted.{take-accepted, accepted-row, take-told}
+use Rattle.receiver.specs.declared.Receiver.{Receiver}
+use Rattle.receiver.specs.declared.Taken.{Taken}
+use Rattle.receiver.specs.declared.TakeAnswer.{TakeAnswer}
+use Rattle.receiver.specs.declared.TakeAnswer.the-variants.{Raised, Held, Idle, Refused}
+use Rattle.recovery.specs.Calls.{Call, takeValue, takeLent, close, after, offered, fitting}
+use Rattle.recovery.specs.laws.FittingRows.{fits}
+use Rattle.idle_rows.specs.Idle.{zeroRow, zeros, WithIdle, none as nothing, call, idleValue, idleLent}
+
+idle-unraised : (a : TakeAnswer) → takeIdle a ≡ true → takeRaised a ≡ false
+idle-unraised Raised e = absurd (holds false e)
+idle-unraised Held e = refl
+idle-unraised Idle e = refl
+idle-unraised (Refused r) e = refl
+
+refused-unraised : (a : TakeAnswer) → (takeNumber a ≡ 0 → ⊥) → takeRaised a ≡ false
+refused-unraised Raised e = absurd (e refl)
+refused-unraised Held e = refl
+refused-unraised Idle e = refl
+refused-unraised (Refused r) e = refl
+
+module _ (r : Receiver) (size : length (r .entries) ≡ 256) where
+  pub zero-untouched : (n : ℕ) → (takeOf r (zeroRow n)) .receiver ≡ r
+  zero-untouched n = told .untouched (cases (ℕ-discrete (takeRefusal r (zeroRow n)) 0))
+    where
+      told : TakeTells r (zeroRow n) (takeOf r (zeroRow n))
+      told = take-told r (zeroRow n) size (takeOf r (zeroRow n)) refl
+
+      cases : Dec (takeRefusal r (zeroRow n) ≡ 0) → takeRaised ((takeOf r (zeroRow n)) .answer) ≡ false
+      cases (yes z) =
+          idle-unraised ((takeOf r (zeroRow n)) .answer)
+          (told .idle ∙ ap (λ b. b && isZero (zeroRow n)) (eq-eqb (takeRefusal r (zeroRow n)) 0 z) ∙ zeros-below n)
+      cases (no z) = refused-unraised ((takeOf r (zeroRow n)) .answer) (λ e. z (sym (told .number) ∙ e))
+
+  pub take-size : (row : List ℕ) → length (((takeOf r row) .receiver) .entries) ≡ 256
+  unfolding takeOf takenIn
+  take-size row = cases (ℕ-discrete (takeRefusal r row) 0)
+    where
+      cases : Dec (takeRefusal r row ≡ 0) → length (((takeOf r row) .receiver) .entries) ≡ 256
+      cases (no z) = ap (λ (t : Taken). length ((t .receiver) .entries)) (sym (kept (takeRefusal r row) _ _ z)) ∙ size
+      cases (yes z) =
+          let a = take-accepted r row z in
+          let s = sound r size (a .formed) in
+          ap (λ (t : Taken). length ((t .receiver) .entries)) (sym (done (takeRefusal r row) _ _ z))
+          ∙ holding-size (r .q) (r .n) (r .k) (s .settings) (heldRows r ++ (row ∷ []))
+          (all-append (held-kept r size s .rows) (more (accepted-row r row a) none))
+
+pub put-in : {n : ℕ} {cs ds : List Call} → WithIdle n cs ds → (r : Receiver) → length (r .entries) ≡ 256 → after r ds ≡ after r cs
+unfolding after
+put-in nothing r size = refl
+put-in (call (takeValue o) w) r size = put-in w ((takeOf r (o .row)) .receiver) (take-size r size (o .row))
+put-in (call (takeLent o) w) r size = put-in w ((takeOf r (o .row)) .receiver) (take-size r size (o .row))
+put-in (call (close t) w) r size = put-in w r size
+put-in {n} (idleValue {ds = ds} w) r size = ap (λ x. after x ds) (zero-untouched r size n) ∙ put-in w r size
+put-in {n} (idleLent {ds = ds} w) r size = ap (λ x. after x ds) (zero-untouched r size n) ∙ put-in w r size
+
+same-calls : (n : ℕ) (cs : List Call) → WithIdle n cs cs
+same-calls n [] = nothing
+same-calls n (c ∷ cs) = call c (same-calls n cs)
+
+pub put-value : (n : ℕ) (cs ds : List Call) → WithIdle n (cs ++ ds) (cs ++ (takeValue (zeros n) ∷ ds))
+put-value n [] ds = idleValue (same-calls n ds)
+put-value n (c ∷ cs) ds = call c (put-value n cs ds)
+
+pub put-lent : (n : ℕ) (cs ds : List Call) → WithIdle n (cs ++ ds) (cs ++ (takeLent (zeros n) ∷ ds))
+put-lent n [] ds = idleLent (same-calls n ds)
+put-lent n (c ∷ cs) ds = call c (put-lent n cs ds)
+
+-- a row before others, where it fits
+before-all : (P : List ℕ → Type 0) (b : Bool) (row : List ℕ) (xs ys : List (List ℕ)) → (All P xs → All P ys)
+    → All P (pick b (row ∷ xs) xs) → All P (pick b (row ∷ ys) ys)
+before-all P true row xs ys f ps = more (all-head ps) (f (all-tail ps))
+before-all P false row xs ys f ps = f ps
+
+one-before : (P : List ℕ → Type 0) (b : Bool) (row : List ℕ) (ys : List (List ℕ)) → P row → All P ys → All P (pick b (row ∷ ys) ys)
+one-before P true row ys p ps = more p ps
+one-before P false row ys p ps = ps
+
+module _ (q n : ℕ) (P : List ℕ → Type 0) (zero : P (zeroRow n)) where
+  pub put-in-fitting : {cs ds : List Call} → WithIdle n cs ds → All P (fitting q n (offered cs)) → All P (fitting q n (offered ds))
+  unfolding fitting offered
+  put-in-fitting nothing ps = ps
+  put-in-fitting (call (takeValue o) w) ps = before-all P (fits q n (o .row)) (o .row) _ _ (λ x. put-in-fitting w x) ps
+  put-in-fitting (call (takeLent o) w) ps = before-all P (fits q n (o .row)) (o .row) _ _ (λ x. put-in-fitting w x) ps
+  put-in-fitting (call (close t) w) ps = put-in-fitting w ps
+  put-in-fitting (idleValue w) ps = one-before P (fits q n (zeroRow n)) (zeroRow n) _ zero (put-in-fitting w ps)
+  put-in-fitting (idleLent w) ps = one-before P (fits q n (zeroRow n)) (zeroRow n) _ zero (put-in-fitting w ps)
