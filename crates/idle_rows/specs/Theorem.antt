@@ -26,13 +26,14 @@ use Rattle.receiver.specs.laws.Held.{settings-laws, holding-size}
 use Rattle.receiver.specs.declared.Receiver.{Receiver}
 use Rattle.receiver.specs.declared.Taken.{Taken}
 use Rattle.receiver.specs.declared.TakeAnswer.the-variants.{Raised, Held, Idle, Refused}
-use Rattle.recovery.specs.Calls.{Call, takeValue, takeLent, begun, after, accepted}
+use Rattle.recovery.specs.Calls.{Call, takeValue, takeLent, close, begun, after, accepted}
 use Rattle.recovery.specs.Demand.{Buffer, Answers, Recovery, Demand, told}
 use Rattle.recovery.specs.Theorem.{demand-3}
 use Rattle.recovery.specs.laws.After.{begun-holds, after-holds, accepted-fits, accepted-rows}
-use Rattle.idle_rows.specs.Idle.{zeroRow, TakenBy, byValue, lent, Answered, zeros, WithIdle}
+use Rattle.idle_rows.specs.Idle.{zeroRow, TakenBy, byValue, lent, Answered, zeros}
+use Rattle.idle_rows.specs.Idle.{WithIdle, none as nothing, call, idleValue, idleLent}
 use Rattle.idle_rows.specs.laws.Answer.{answered}
-use Rattle.idle_rows.specs.laws.PutIn.{put-in, put-value, put-lent, put-in-fitting}
+use Rattle.idle_rows.specs.laws.PutIn.{zero-untouched, take-size, put-value, put-lent, put-in-fitting}
 
 pub take-answer : (q n k : ℕ) → settingsRefusal q n k ≡ 0 → (cs : List Call) (row : List ℕ) {t : Taken}
     → TakenBy (after (begun q n k) cs) row t → Answered q n (accepted (begun q n k) cs) (after (begun q n k) cs) row t
@@ -64,7 +65,13 @@ zeros-idle q n k settings cs =
 
 pub zeros-unharmed : (r : Receiver) → length (r .entries) ≡ 256 → {n : ℕ} {cs ds : List Call} → WithIdle n cs ds
     → after r ds ≡ after r cs
-zeros-unharmed r size w = put-in w r size
+unfolding after
+zeros-unharmed r size nothing = refl
+zeros-unharmed r size (call (takeValue o) w) = zeros-unharmed ((takeOf r (o .row)) .receiver) (take-size r size (o .row)) w
+zeros-unharmed r size (call (takeLent o) w) = zeros-unharmed ((takeOf r (o .row)) .receiver) (take-size r size (o .row)) w
+zeros-unharmed r size (call (close t) w) = zeros-unharmed r size w
+zeros-unharmed r size {n} (idleValue {ds = ds} w) = ap (λ x. after x ds) (zero-untouched r size n) ∙ zeros-unharmed r size w
+zeros-unharmed r size {n} (idleLent {ds = ds} w) = ap (λ x. after x ds) (zero-untouched r size n) ∙ zeros-unharmed r size w
 
 pub zeros-anywhere : (r : Receiver) → length (r .entries) ≡ 256 → (n : ℕ) (cs ds : List Call)
     → (after r (cs ++ (takeValue (zeros n) ∷ ds)) ≡ after r (cs ++ ds)) × (after r (cs ++ (takeLent (zeros n) ∷ ds)) ≡ after r (cs ++ ds))

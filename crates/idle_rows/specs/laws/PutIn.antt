@@ -1,7 +1,6 @@
 -- Zero rows put into a list of calls; no part of the meaning.
 --   zero-untouched  == a zero row, of whatever length, leaves any receiver
 --   take-size       == Take hands back a receiver of 256 entries
---   put-in          == so a list of calls with zero rows put in leaves the receiver that the list without them leaves
 --   put-value, put-lent == a zero row put in at one place
 --   put-in-fitting  == what holds of the zero row and of the rows that fit holds with zero rows put in
 -- Assumes nothing.
@@ -26,7 +25,7 @@ use Rattle.receiver.specs.declared.Receiver.{Receiver}
 use Rattle.receiver.specs.declared.Taken.{Taken}
 use Rattle.receiver.specs.declared.TakeAnswer.{TakeAnswer}
 use Rattle.receiver.specs.declared.TakeAnswer.the-variants.{Raised, Held, Idle, Refused}
-use Rattle.recovery.specs.Calls.{Call, takeValue, takeLent, close, after, offered, fitting}
+use Rattle.recovery.specs.Calls.{Call, takeValue, takeLent, close, offered, fitting}
 use Rattle.recovery.specs.laws.FittingRows.{fits}
 use Rattle.idle_rows.specs.Idle.{zeroRow, zeros, WithIdle, none as nothing, call, idleValue, idleLent}
 
@@ -67,15 +66,6 @@ module _ (r : Receiver) (size : length (r .entries) ≡ 256) where
           ap (λ (t : Taken). length ((t .receiver) .entries)) (sym (done (takeRefusal r row) _ _ z))
           ∙ holding-size (r .q) (r .n) (r .k) (s .settings) (heldRows r ++ (row ∷ []))
           (all-append (held-kept r size s .rows) (more (accepted-row r row a) none))
-
-pub put-in : {n : ℕ} {cs ds : List Call} → WithIdle n cs ds → (r : Receiver) → length (r .entries) ≡ 256 → after r ds ≡ after r cs
-unfolding after
-put-in nothing r size = refl
-put-in (call (takeValue o) w) r size = put-in w ((takeOf r (o .row)) .receiver) (take-size r size (o .row))
-put-in (call (takeLent o) w) r size = put-in w ((takeOf r (o .row)) .receiver) (take-size r size (o .row))
-put-in (call (close t) w) r size = put-in w r size
-put-in {n} (idleValue {ds = ds} w) r size = ap (λ x. after x ds) (zero-untouched r size n) ∙ put-in w r size
-put-in {n} (idleLent {ds = ds} w) r size = ap (λ x. after x ds) (zero-untouched r size n) ∙ put-in w r size
 
 same-calls : (n : ℕ) (cs : List Call) → WithIdle n cs cs
 same-calls n [] = nothing
