@@ -1,14 +1,15 @@
 /*
  * Times the library's calls beside plain C that makes the same tests (plain.h), by turns in one run, and measures the
- * stack that the two C calls use. A time is the least of many samples, each over prepared random inputs, in nanoseconds
- * a call: whatever else the machine does only adds to it. A ratio is the library's time divided by the other's: above 1,
- * the library takes longer.
+ * stack that the three C calls use. A time is the least of many samples, each over prepared random inputs, in
+ * nanoseconds a call, and for Draw a batch an index: whatever else the machine does only adds to it. A ratio is the
+ * library's time divided by the other's: above 1, the library takes longer.
  *
  *   plain    plain C through the same interface: a receiver goes in by value and comes back by value, as with the
  *            library. It has one Take, which stands beside both of the library's
  *   packed   Reduce and Receive at q = 2 beside an expert's C with rows as 16-bit words (packed.h)
  *   FLINT    Reduce beside nmod_mat_rref, where WITH_FLINT is defined
  *   a row    Take beside the library's own Receive of 64 rows, whose time is divided by 64: what a row costs there
+ *   alone    Draw a batch beside the library's own Draw, called for each index of the same list to write the same bytes
  *
  * Before two are timed, their answers to the prepared inputs are compared. The list programs are run as processes that
  * write to /dev/null; their time is that of a line.
@@ -28,7 +29,8 @@
 #include <flint/nmod_mat.h>
 #endif
 
-enum { INPUTS = 64, SAMPLES = 60, SAMPLE_NANOSECONDS = 300000, ROWS_ROOM = PLAIN_ROWS * PLAIN_LENGTH };
+enum { INPUTS = 64, SAMPLES = 60, BATCH_SAMPLES = 240, SAMPLE_NANOSECONDS = 300000, ROWS_ROOM = PLAIN_ROWS * PLAIN_LENGTH };
+enum { BATCH = 10000, BATCH_ROOM = BATCH * PLAIN_ENTRIES, PAINT = 0xC3 };
 
 typedef struct {
     uint64_t q, n, k;
@@ -50,6 +52,10 @@ static setting counted[INPUTS];
 static harness_receiver receivers[INPUTS];
 static plain_receiver plain_receivers[INPUTS];
 static uint8_t taken[INPUTS][PLAIN_LENGTH];
+
+/* A list of indexes, and what it is drawn to. */
+static uint64_t batch_indexes[BATCH];
+static uint8_t batch_matrices[BATCH_ROOM], batch_answers[BATCH];
 
 /* What the calls answer goes here, so that none is left out by the compiler. */
 static volatile uint64_t sink;
@@ -120,6 +126,13 @@ static void prepare(setting s, uint64_t chosen, uint64_t mixed_rows)
     }
 }
 
+static void prepare_batch(void)
+{
+    uint64_t count = plain_count(now.q, now.n, now.k).value;
+    for (unsigned place = 0; place < BATCH; place++)
+        batch_indexes[place] = random_next() % count;
+}
+
 static void prepare_reduce(uint64_t q, uint64_t n)
 {
     now = (setting){q, n, n};
@@ -185,6 +198,36 @@ static uint64_t draw_library(unsigned input)
 static uint64_t draw_plain(unsigned input)
 {
     return plain_draw(now.q, now.n, now.k, numbering, indexes[input], out, width()) + out[0];
+}
+
+/* The first so many indexes of the list in one call. */
+static uint64_t batch_library_of(size_t count)
+{
+    return pandrwyg_draw_batch(now.q, now.n, now.k, numbering, batch_indexes, count, batch_matrices, count * width(),
+                               batch_answers, count);
+}
+
+static uint64_t batch_library(unsigned input)
+{
+    (void)input;
+    return batch_library_of(BATCH);
+}
+
+static uint64_t batch_plain(unsigned input)
+{
+    (void)input;
+    return plain_draw_batch(now.q, now.n, now.k, numbering, batch_indexes, BATCH, batch_matrices, BATCH * width(),
+                            batch_answers, BATCH);
+}
+
+static uint64_t batch_alone(unsigned input)
+{
+    const size_t length = width();
+    (void)input;
+    for (size_t place = 0; place < BATCH; place++)
+        batch_answers[place] = (uint8_t)pandrwyg_draw(now.q, now.n, now.k, numbering, batch_indexes[place],
+                                                      batch_matrices + place * length, length);
+    return 0;
 }
 
 static uint64_t number_library(unsigned input)
@@ -434,12 +477,12 @@ static void report(const char *kind, const char *name, double library_time, doub
     note_worst(kind, name, library_time / other_time);
 }
 
-/* Times two calls by turns. */
-static void measure(timed_call *first, timed_call *second, unsigned inputs, double times[2])
+/* Times two calls by turns, from so many samples of each. */
+static void measure(timed_call *first, timed_call *second, unsigned inputs, unsigned samples, double times[2])
 {
     uint64_t first_rounds = calibrate(first, inputs), second_rounds = calibrate(second, inputs);
     times[0] = times[1] = 1e18;
-    for (unsigned turn = 0; turn < SAMPLES; turn++) {
+    for (unsigned turn = 0; turn < samples; turn++) {
         times[0] = lesser(times[0], sample(first, inputs, first_rounds) / (double)(first_rounds * inputs));
         times[1] = lesser(times[1], sample(second, inputs, second_rounds) / (double)(second_rounds * inputs));
     }
@@ -453,17 +496,47 @@ static void compare_units(const char *kind, const char *name, unsigned inputs, u
     for (unsigned input = 0; input < inputs; input++)
         if (library(input) != other(input))
             program_trouble(name);
-    measure(library, other, inputs, times);
+    measure(library, other, inputs, SAMPLES, times);
     report(kind, name, times[0] / (double)units, times[1] / (double)units);
 }
 
-/* The calls of one kind, at the settings and numbering of now. */
-static void compare(const char *kind, const char *call, timed_call *library, timed_call *other)
+/* A line's name: the call, at the settings and numbering of now. */
+static const char *line_name(const char *call)
 {
-    char name[64];
+    static char name[64];
     snprintf(name, sizeof name, "%s " SETTING_FORMAT " %s", call, SETTING_VALUES(now),
              numbering == PLAIN_EXTENDED ? "extended" : "Ferrers");
-    compare_units(kind, name, INPUTS, 1, library, other);
+    return name;
+}
+
+/* The calls of one kind. */
+static void compare(const char *kind, const char *call, timed_call *library, timed_call *other)
+{
+    compare_units(kind, line_name(call), INPUTS, 1, library, other);
+}
+
+static void paint_batch(void)
+{
+    memset(batch_matrices, PAINT, sizeof batch_matrices);
+    memset(batch_answers, PAINT, sizeof batch_answers);
+}
+
+/* Draws the batch in one call and otherwise; both must leave the same in all of the painted memory. */
+static void compare_batch(const char *kind, const char *call, timed_call *other)
+{
+    static uint8_t matrices_left[BATCH_ROOM], answers_left[BATCH];
+    double times[2];
+    paint_batch();
+    batch_library(0);
+    memcpy(matrices_left, batch_matrices, sizeof matrices_left);
+    memcpy(answers_left, batch_answers, sizeof answers_left);
+    paint_batch();
+    other(0);
+    if (memcmp(matrices_left, batch_matrices, sizeof matrices_left) != 0 ||
+        memcmp(answers_left, batch_answers, sizeof answers_left) != 0)
+        program_trouble(call);
+    measure(batch_library, other, 1, BATCH_SAMPLES, times);
+    report(kind, line_name(call), times[0] / BATCH, times[1] / BATCH);
 }
 
 static void compare_receive(setting s, uint64_t chosen, uint64_t mixed_rows)
@@ -483,6 +556,9 @@ static void compare_numbering(setting s, uint64_t chosen)
 {
     prepare(s, chosen, 0);
     compare("draw", "draw", draw_library, draw_plain);
+    prepare_batch();
+    compare_batch("draw batch", "draw batch", batch_plain);
+    compare_batch("draw batch, draw alone", "  draw alone", batch_alone);
     compare("number", "number", number_library, number_plain);
     compare("convert", "convert from", convert_library, convert_plain);
     compare_receive(s, chosen, s.k);
@@ -498,7 +574,7 @@ static void compare_take(setting s, const char *form, timed_call *library)
     prepare_takes(s);
     snprintf(name, sizeof name, "%s " SETTING_FORMAT, form, SETTING_VALUES(s));
     compare_units(form, name, INPUTS, 1, library, take_plain);
-    measure(library, receive_library, INPUTS, times);
+    measure(library, receive_library, INPUTS, SAMPLES, times);
     snprintf(name, sizeof name, "  a row of receive " SETTING_FORMAT, SETTING_VALUES(s));
     report("take, a row of receive", name, times[0], times[1] / PLAIN_ROWS);
 }
@@ -584,7 +660,7 @@ static void compare_all(void)
 
 /* ---- Stack ---- */
 
-enum { STACK_LENGTH = 1 << 20, PAINT = 0xC3 };
+enum { STACK_LENGTH = 1 << 20 };
 
 static uint8_t *stack;
 static ucontext_t outer, inner;
@@ -596,6 +672,15 @@ static void call_nothing(void)
 static void call_draw(void)
 {
     sink += draw_library(0);
+}
+
+/* Three indexes, of which one is N or more. */
+static void call_batch(void)
+{
+    batch_indexes[0] = indexes[0];
+    batch_indexes[1] = UINT64_MAX;
+    batch_indexes[2] = indexes[1];
+    sink += batch_library_of(3);
 }
 
 static void call_receive(void)
@@ -643,6 +728,7 @@ int main(void)
     if (stack == NULL)
         return 1;
     printf("stack of draw, all settings: %zu bytes\n", stack_use(call_draw));
+    printf("stack of draw batch, all settings: %zu bytes\n", stack_use(call_batch));
     printf("stack of receive of 64 rows, all settings: %zu bytes\n", stack_use(call_receive));
     free(stack);
     return 0;

@@ -1,4 +1,7 @@
-/* Count, Draw, Number and Convert in plain C, by the paper's formulas and algorithms on tables that are filled once. */
+/*
+ * Count, Draw, Draw a batch, Number and Convert in plain C, by the paper's formulas and algorithms on tables that are
+ * filled once.
+ */
 #include "plain.h"
 
 #include <string.h>
@@ -223,7 +226,8 @@ uint64_t plain_index(uint64_t q, unsigned n, unsigned k, uint64_t numbering, con
     return ferrers_index(q, n, k, matrix, pivots);
 }
 
-static void draw(uint64_t q, unsigned n, unsigned k, uint64_t numbering, uint64_t index, uint8_t *matrix)
+/* Inlined into each call; a shared copy is slower. */
+static inline void draw(uint64_t q, unsigned n, unsigned k, uint64_t numbering, uint64_t index, uint8_t *matrix)
 {
     if (numbering == PLAIN_EXTENDED)
         draw_extended(q, n, k, index, matrix);
@@ -248,6 +252,25 @@ uint32_t plain_draw(uint64_t q, uint64_t n, uint64_t k, uint64_t numbering, uint
     if (index >= plain_gaussian[q][n][k])
         return PLAIN_NO_INDEX;
     draw(q, (unsigned)n, (unsigned)k, numbering, index, matrix);
+    return PLAIN_DONE;
+}
+
+uint32_t plain_draw_batch(uint64_t q, uint64_t n, uint64_t k, uint64_t numbering, const uint64_t *indexes,
+                          size_t index_count, uint8_t *matrices, size_t matrices_length, uint8_t *answers,
+                          size_t answers_length)
+{
+    size_t width = (size_t)(k * n), due;
+    uint32_t refusal = plain_choice(q, n, k, numbering);
+    if (refusal != PLAIN_DONE)
+        return refusal;
+    if (__builtin_mul_overflow(index_count, width, &due) || matrices_length != due || answers_length != index_count)
+        return PLAIN_NO_LENGTH;
+    for (size_t place = 0; place < index_count; place++) {
+        bool below = indexes[place] < plain_gaussian[q][n][k];
+        answers[place] = below ? PLAIN_DONE : PLAIN_NO_INDEX;
+        if (below)
+            draw(q, (unsigned)n, (unsigned)k, numbering, indexes[place], matrices + place * width);
+    }
     return PLAIN_DONE;
 }
 

@@ -44,6 +44,9 @@ void plain_init(void);
 plain_answer plain_count(uint64_t q, uint64_t n, uint64_t k);
 uint32_t plain_draw(uint64_t q, uint64_t n, uint64_t k, uint64_t numbering, uint64_t index,
                     uint8_t *matrix, size_t length);
+uint32_t plain_draw_batch(uint64_t q, uint64_t n, uint64_t k, uint64_t numbering, const uint64_t *indexes,
+                          size_t index_count, uint8_t *matrices, size_t matrices_length, uint8_t *answers,
+                          size_t answers_length);
 plain_answer plain_number(uint64_t q, uint64_t n, uint64_t k, uint64_t numbering, const uint8_t *matrix, size_t length);
 plain_answer plain_convert(uint64_t q, uint64_t n, uint64_t k, uint64_t from, uint64_t to, uint64_t index);
 plain_answer plain_reduce(uint64_t q, uint64_t n, uint64_t row_count, const uint8_t *rows, size_t rows_length,

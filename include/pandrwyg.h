@@ -9,8 +9,8 @@
  * call the first that applies, in that order, is returned; 0 means done. No call keeps a pointer, allocates, or changes
  * anything but the memory it is lent. Buffers that are lent to one call must not overlap.
  *
- * A null pointer is met too: with length 0 it counts as an empty buffer, and with another length, as does a length above
- * PTRDIFF_MAX, as a buffer of a wrong length, which the library refuses in its place.
+ * A null pointer is met too: with length 0 it counts as an empty buffer, and with another length, as does a length of more
+ * than PTRDIFF_MAX bytes, as a buffer of a wrong length, which the library refuses in its place.
  */
 #ifndef PANDRWYG_H
 #define PANDRWYG_H
@@ -49,6 +49,19 @@ extern "C" {
  */
 uint32_t pandrwyg_draw(uint64_t q, uint64_t n, uint64_t k, uint64_t numbering, uint64_t index,
                        uint8_t *matrix, size_t length);
+
+/*
+ * Draw a batch: writes the reduced matrix of each index of a list, what Draw alone writes for it.
+ *   in:      the settings, the numbering, a list of index_count indexes, which may be any numbers, exactly k*n bytes of
+ *            matrices for each index, in the list's order, and exactly one answer byte for each, whatever they hold
+ *   refuses: 1, 2, 3, 10, 4 (the matrices are not exactly index_count*k*n bytes, or the answers not exactly index_count)
+ *   leaves:  done, for each index below N an answer of 0, and its entry of the matrix in each of its k*n bytes; for each
+ *            other an answer of 5, and its k*n bytes unchanged; refused, both buffers are unchanged. The indexes are never
+ *            changed
+ */
+uint32_t pandrwyg_draw_batch(uint64_t q, uint64_t n, uint64_t k, uint64_t numbering,
+                             const uint64_t *indexes, size_t index_count, uint8_t *matrices, size_t matrices_length,
+                             uint8_t *answers, size_t answers_length);
 
 /*
  * Receive: writes the index of the space that the rows span.
@@ -99,6 +112,22 @@ static inline uint32_t pandrwyg_draw_guarded(uint64_t q, uint64_t n, uint64_t k,
     return pandrwyg_draw(q, n, k, numbering, index, matrix == NULL ? wrong : matrix, length);
 }
 
+static inline uint32_t pandrwyg_draw_batch_guarded(uint64_t q, uint64_t n, uint64_t k, uint64_t numbering,
+                                                   const uint64_t *indexes, size_t index_count, uint8_t *matrices,
+                                                   size_t matrices_length, uint8_t *answers, size_t answers_length)
+{
+    static const uint64_t one_index[1] = {0};
+    static uint8_t wrong_matrices[257], wrong_answers[2]; /* no one index needs as many bytes */
+    if (index_count > PTRDIFF_MAX / sizeof *indexes || (indexes == NULL && index_count != 0) ||
+        matrices_length > PTRDIFF_MAX || (matrices == NULL && matrices_length != 0) ||
+        answers_length > PTRDIFF_MAX || (answers == NULL && answers_length != 0))
+        return pandrwyg_draw_batch(q, n, k, numbering, one_index, 1, wrong_matrices, sizeof wrong_matrices,
+                                   wrong_answers, sizeof wrong_answers);
+    return pandrwyg_draw_batch(q, n, k, numbering, indexes == NULL ? one_index : indexes, index_count,
+                               matrices == NULL ? wrong_matrices : matrices, matrices_length,
+                               answers == NULL ? wrong_answers : answers, answers_length);
+}
+
 static inline uint32_t pandrwyg_receive_guarded(uint64_t q, uint64_t n, uint64_t k, uint64_t numbering,
                                                 uint64_t row_count, const uint8_t *rows, size_t rows_length,
                                                 uint8_t *answer, size_t answer_length)
@@ -118,6 +147,7 @@ static inline uint32_t pandrwyg_receive_guarded(uint64_t q, uint64_t n, uint64_t
 }
 
 #define pandrwyg_draw pandrwyg_draw_guarded
+#define pandrwyg_draw_batch pandrwyg_draw_batch_guarded
 #define pandrwyg_receive pandrwyg_receive_guarded
 
 #ifdef __cplusplus

@@ -59,6 +59,122 @@ static void draw_length_group(void)
     check_group_end();
 }
 
+/* What a batch is lent. */
+typedef struct {
+    const uint64_t *indexes;
+    size_t index_count;
+    uint8_t *matrices;
+    size_t matrices_length;
+    uint8_t *answers;
+    size_t answers_length;
+} batch;
+
+static uint8_t batch_matrices[MATRIX], batch_answers[1];
+
+/* A batch of the request's index, which has the lengths that 2,6,3 needs. */
+static batch batch_of(const request *r)
+{
+    return (batch){&r->last, 1, batch_matrices, sizeof batch_matrices, batch_answers, sizeof batch_answers};
+}
+
+/* A batch that the request's refusal meets, or 4; it may leave no mark. */
+static void compare_batch(const request *r, const batch *lent)
+{
+    memset(batch_matrices, PAINT, sizeof batch_matrices);
+    memset(batch_answers, PAINT, sizeof batch_answers);
+    uint32_t refusal = pandrwyg_draw_batch(r->q, r->n, r->k, r->numbering, lent->indexes, lent->index_count,
+                                           lent->matrices, lent->matrices_length, lent->answers, lent->answers_length);
+    check(refusal == r->refusal, "%zu%s indexes, %zu%s and %zu%s bytes: %" PRIu32 " instead of %" PRIu32,
+          lent->index_count, lent->indexes == NULL ? " null" : "", lent->matrices_length,
+          lent->matrices == NULL ? " null" : "", lent->answers_length, lent->answers == NULL ? " null" : "", refusal,
+          r->refusal);
+    for (size_t byte = 0; byte < sizeof batch_matrices; byte++)
+        check(batch_matrices[byte] == PAINT, "byte %zu is touched", byte);
+    check(batch_answers[0] == PAINT, "the answer is touched");
+}
+
+static void batch_null_group(void)
+{
+    check_group_begin("Draw a batch from null and to null");
+    for (size_t place = 0; place < sizeof draws / sizeof *draws; place++)
+        for (size_t size = 0; size < sizeof no_lengths / sizeof *no_lengths; size++) {
+            const request *r = &draws[place];
+            batch indexes = batch_of(r), matrices = indexes, answers = indexes;
+            indexes.indexes = NULL;
+            indexes.index_count = no_lengths[size];
+            compare_batch(r, &indexes);
+            matrices.matrices = NULL;
+            matrices.matrices_length = no_lengths[size];
+            compare_batch(r, &matrices);
+            answers.answers = NULL;
+            answers.answers_length = no_lengths[size];
+            compare_batch(r, &answers);
+        }
+    check_group_end();
+}
+
+static void batch_length_group(void)
+{
+    static const size_t too_long[] = {(size_t)PTRDIFF_MAX + 1, SIZE_MAX - 7, SIZE_MAX};
+    static const size_t too_many[] = {PTRDIFF_MAX / 8 + 1, PTRDIFF_MAX, (size_t)PTRDIFF_MAX + 1, SIZE_MAX};
+    check_group_begin("Draw a batch with a length that no buffer has");
+    for (size_t place = 0; place < sizeof draws / sizeof *draws; place++) {
+        const request *r = &draws[place];
+        for (size_t size = 0; size < sizeof too_long / sizeof *too_long; size++) {
+            batch matrices = batch_of(r), answers = matrices;
+            matrices.matrices_length = too_long[size];
+            compare_batch(r, &matrices);
+            answers.answers_length = too_long[size];
+            compare_batch(r, &answers);
+        }
+        for (size_t size = 0; size < sizeof too_many / sizeof *too_many; size++) {
+            batch indexes = batch_of(r);
+            indexes.index_count = indexes.answers_length = too_many[size];
+            compare_batch(r, &indexes);
+        }
+    }
+    check_group_end();
+}
+
+/* Lengths that fit together, so that the library would go on: no memory holds the list, or the matrices. */
+static void batch_memory_group(void)
+{
+    static const request empty_matrix = {2, 6, 0, 1, 0, REFUSED_LENGTH}, large = {2, 16, 16, 2, 0, REFUSED_LENGTH};
+    static const size_t counts[] = {PTRDIFF_MAX / 8 + 1, PTRDIFF_MAX, (size_t)PTRDIFF_MAX + 1, SIZE_MAX};
+    const size_t many = ((size_t)PTRDIFF_MAX + 1) / 256; /* matrices of 256 bytes have one byte too many */
+    check_group_begin("Draw a batch that no memory holds");
+    for (size_t place = 0; place < sizeof counts / sizeof *counts; place++) {
+        const batch list = {&empty_matrix.last, counts[place], batch_matrices, 0, batch_answers, counts[place]};
+        compare_batch(&empty_matrix, &list);
+    }
+    compare_batch(&large, &(const batch){&large.last, many, batch_matrices, many * 256, batch_answers, many});
+    check_group_end();
+}
+
+static void batch_empty_group(void)
+{
+    static const request right = {2, 6, 3, 1, 0, REFUSED_LENGTH};
+    static const uint64_t indexes[] = {0, 1};
+    uint8_t answers[] = {PAINT, PAINT};
+    check_group_begin("Draw a batch with empty buffers");
+    check(pandrwyg_draw_batch(2, 6, 3, 1, NULL, 0, NULL, 0, NULL, 0) == 0, "nothing is asked, all null");
+    check(pandrwyg_draw_batch(2, 6, 3, 2, indexes, 0, batch_matrices, 0, answers, 0) == 0, "nothing is asked");
+    check(pandrwyg_draw_batch(4, 6, 3, 1, NULL, 0, NULL, 0, NULL, 0) == REFUSED_FIELD, "nothing is asked of no field");
+    check(pandrwyg_draw_batch(2, 6, 0, 1, indexes, 2, NULL, 0, answers, 2) == 0, "the empty matrix to null");
+    check(answers[0] == 0 && answers[1] == REFUSED_INDEX, "no second empty matrix");
+    batch no_indexes = batch_of(&right), no_matrices = no_indexes, no_answers = no_indexes;
+    no_indexes.indexes = NULL;
+    no_indexes.index_count = 0;
+    compare_batch(&right, &no_indexes);
+    no_matrices.matrices = NULL;
+    no_matrices.matrices_length = 0;
+    compare_batch(&right, &no_matrices);
+    no_answers.answers = NULL;
+    no_answers.answers_length = 0;
+    compare_batch(&right, &no_answers);
+    check_group_end();
+}
+
 static void receive_null_group(void)
 {
     static const uint8_t rows[ROWS] = {0, 1, 1, 0, 0, 1, 0, 0, 0, 1, 0, 0, 0, 0, 0, 0, 1, 1};
@@ -114,6 +230,10 @@ int main(void)
     readers_group();
     draw_null_group();
     draw_length_group();
+    batch_null_group();
+    batch_length_group();
+    batch_memory_group();
+    batch_empty_group();
     receive_null_group();
     return check_summary("border");
 }

@@ -1,10 +1,11 @@
 /*
- * What the test programs share: a fixed-seed xorshift generator, the accepted settings, matrices written as text,
- * the papers' figures, and lent buffers with a known filling.
+ * What the test programs share: a fixed-seed xorshift generator, the accepted settings, their sorted listings, matrices
+ * written as text, the papers' figures, and lent buffers with a known filling.
  */
 #ifndef CASES_H
 #define CASES_H
 
+#include "check.h"
 #include "second.h"
 
 #include <inttypes.h>
@@ -130,6 +131,16 @@ static inline void random_reduced(const setting *s, uint8_t *matrix)
             for (uint64_t above = 0; above < row; above++)
                 matrix[above * s->n + column] = (uint8_t)random_below(s->q);
     }
+}
+
+/* All reduced matrices of a setting in the numbering's order, one after another; the caller frees them. */
+static inline uint8_t *sorted_listing(const setting *s, uint64_t numbering)
+{
+    uint8_t *matrices = malloc((size_t)s->count * width_of(s) + 1);
+    size_t count = second_enumerate(s->q, s->n, s->k, matrices);
+    check(count == s->count, SETTING_FORMAT ": %zu matrices are listed", SETTING_VALUES(s), count);
+    second_sort(s->q, s->n, s->k, numbering, matrices, count);
+    return matrices;
 }
 
 /* Compares a matrix with its extended and its Ferrers index. */

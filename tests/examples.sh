@@ -71,6 +71,8 @@ same 'README.md quotes the shortfall' "$(grep -cxF "    $short" README.md)" 1
 same 'the link line of docs/C.md' "$(answer sh -c "$(block 'Build and link' 1)")" '0: '
 same 'docs/C.md quotes Draw' "$(block Draw 1)" "$(cat examples/draw_ten_lines.c)"
 same 'docs/C.md tells what Draw prints' "0: $(block Draw 2)" "$(answer "$programs/draw_ten_lines")"
+same 'docs/C.md quotes Draw a batch' "$(block 'Draw a batch' 1)" "$(cat examples/batch_ten_lines.c)"
+same 'docs/C.md tells what Draw a batch prints' "0: $(block 'Draw a batch' 2)" "$(answer "$programs/batch_ten_lines")"
 same 'docs/C.md quotes Receive' "$(block Receive 1)" "$(cat examples/receive_ten_lines.c)"
 same 'docs/C.md tells what Receive prints' "0: $(block Receive 2)" "$(answer "$programs/receive_ten_lines")"
 for refusal in $(sed -n 's/^    [A-Z_]* = \([0-9]*\),.*/\1/p' tests/refusals.h); do

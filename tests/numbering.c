@@ -37,15 +37,6 @@ static bool converts(const setting *s, uint64_t from, uint64_t to, uint64_t inde
 
 /* ---- Whole settings ---- */
 
-static uint8_t *sorted_listing(const setting *s, uint64_t numbering)
-{
-    uint8_t *matrices = malloc((size_t)s->count * width_of(s) + 1);
-    size_t count = second_enumerate(s->q, s->n, s->k, matrices);
-    check(count == s->count, SETTING_FORMAT ": %zu matrices are listed", SETTING_VALUES(s), count);
-    second_sort(s->q, s->n, s->k, numbering, matrices, count);
-    return matrices;
-}
-
 static void compare_listing(const setting *s, uint64_t numbering)
 {
     uint8_t *matrices = sorted_listing(s, numbering);

@@ -1,6 +1,6 @@
 /*
- * Number, Draw and Convert of the second implementation: the tests that they begin with. What is then left is to count
- * and to search.
+ * Number, Draw, Draw a batch and Convert of the second implementation: the tests that they begin with. What is then
+ * left is to count and to search.
  */
 #include "second_parts.h"
 
@@ -84,6 +84,25 @@ uint32_t second_draw(uint64_t q, uint64_t n, uint64_t k, uint64_t numbering,
     if (index >= count)
         return REFUSED_INDEX;
     second_search(q, n, k, numbering, index, matrix);
+    return ACCEPTED;
+}
+
+/* A list needs fewer than 2^72 bytes of matrices, which are counted in 128 bits: nothing is cut off. */
+uint32_t second_draw_batch(uint64_t q, uint64_t n, uint64_t k, uint64_t numbering,
+                           const uint64_t *indexes, size_t index_count, uint8_t *matrices, size_t matrices_length,
+                           uint8_t *answers, size_t answers_length)
+{
+    uint64_t count;
+    uint32_t refusal = second_setting(q, n, k, numbering, &count);
+    if (refusal != ACCEPTED)
+        return refusal;
+    size_t width = (size_t)(k * n);
+    if ((wide)index_count * width != matrices_length || index_count != answers_length)
+        return REFUSED_LENGTH;
+    for (size_t place = 0; place < index_count; place++) {
+        refusal = second_draw(q, n, k, numbering, indexes[place], matrices + place * width, width);
+        answers[place] = (uint8_t)refusal;
+    }
     return ACCEPTED;
 }
 

@@ -48,6 +48,11 @@ uint32_t second_number(uint64_t q, uint64_t n, uint64_t k, uint64_t numbering,
 uint32_t second_draw(uint64_t q, uint64_t n, uint64_t k, uint64_t numbering,
                      uint64_t index, uint8_t *matrix, size_t length);
 
+/* Draw a batch: each index to its matrix and an answer, what Draw answers for it. Refuses 1, 2, 3, 10, 4. */
+uint32_t second_draw_batch(uint64_t q, uint64_t n, uint64_t k, uint64_t numbering,
+                           const uint64_t *indexes, size_t index_count, uint8_t *matrices, size_t matrices_length,
+                           uint8_t *answers, size_t answers_length);
+
 /* Convert: an index from one numbering to the other. Refuses 1, 2, 3, 10 for either numbering, 5. */
 uint32_t second_convert(uint64_t q, uint64_t n, uint64_t k, uint64_t from, uint64_t to,
                         uint64_t index, uint64_t *converted);

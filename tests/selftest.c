@@ -98,11 +98,8 @@ static void count_figures_group(void)
 static void compare_listing(const setting *s, uint64_t numbering)
 {
     size_t width = width_of(s);
-    uint8_t *matrices = malloc((size_t)s->count * width + 1), drawn[MAX_LENGTH * MAX_LENGTH];
-    size_t count = second_enumerate(s->q, s->n, s->k, matrices);
-    check(count == s->count, SETTING_FORMAT ": %zu matrices", SETTING_VALUES(s), count);
-    second_sort(s->q, s->n, s->k, numbering, matrices, count);
-    for (uint64_t index = 0; index < count; index++) {
+    uint8_t *matrices = sorted_listing(s, numbering), drawn[MAX_LENGTH * MAX_LENGTH];
+    for (uint64_t index = 0; index < s->count; index++) {
         const uint8_t *matrix = matrices + index * width;
         uint64_t number, converted, back, other = EXTENDED + FERRERS - numbering;
         memset(drawn, FILLING, sizeof drawn);
@@ -330,6 +327,31 @@ static void refusals_group(void)
     check_group_end();
 }
 
+/* The order of the refusals, and a product that exceeds 64 bits; then 2,3,1 with an index of N, in both numberings. */
+static void batch_group(void)
+{
+    static const uint64_t extended[] = {5, 7, 2}, ferrers[] = {5, 7, 4};
+    uint8_t bytes[9], answers[3];
+    memset(bytes, FILLING, sizeof bytes);
+    memset(answers, FILLING, sizeof answers);
+    check_group_begin("batch");
+    check(second_draw_batch(4, 3, 1, 0, extended, 3, bytes, 8, answers, 2) == REFUSED_FIELD, "1 before all");
+    check(second_draw_batch(2, 3, 4, 0, extended, 3, bytes, 8, answers, 2) == REFUSED_SHAPE, "2 before 10");
+    check(second_draw_batch(2, 16, 8, 0, extended, 3, bytes, 8, answers, 2) == REFUSED_COUNT, "3 before 10");
+    check(second_draw_batch(2, 3, 1, 0, extended, 3, bytes, 8, answers, 2) == REFUSED_NUMBERING, "10 before 4");
+    check(second_draw_batch(2, 3, 1, 1, extended, 3, bytes, 8, answers, 3) == REFUSED_LENGTH, "a byte too few");
+    check(second_draw_batch(2, 3, 1, 1, extended, 3, bytes, 9, answers, 2) == REFUSED_LENGTH, "an answer too few");
+    check(second_draw_batch(2, 16, 16, 1, extended, SIZE_MAX / 256 + 1, bytes, 0, answers, SIZE_MAX / 256 + 1) ==
+              REFUSED_LENGTH, "2^56 indexes and no bytes");
+    check(is_filled(bytes, sizeof bytes) && is_filled(answers, sizeof answers), "what is refused leaves the buffers");
+    check(second_draw_batch(2, 3, 1, 1, extended, 3, bytes, 9, answers, 3) == ACCEPTED, "extended");
+    check(memcmp(bytes, "\0\1\1\xA5\xA5\xA5\0\1\0", 9) == 0 && memcmp(answers, "\0\5\0", 3) == 0, "011, 5, 010");
+    check(second_draw_batch(2, 3, 1, 2, ferrers, 3, bytes, 9, answers, 3) == ACCEPTED, "Ferrers");
+    check(memcmp(bytes, "\0\1\1\xA5\xA5\xA5\0\1\0", 9) == 0 && memcmp(answers, "\0\5\0", 3) == 0, "the same");
+    check(second_draw_batch(2, 3, 1, 1, extended, 0, bytes, 0, answers, 0) == ACCEPTED, "the empty list");
+    check_group_end();
+}
+
 /* Of all fillings of d x n entries below q, those that a receiver can hold are as many as there are spaces. */
 static void revived_group(uint64_t q, uint64_t n)
 {
@@ -514,6 +536,7 @@ int main(int argument_count, char **arguments)
     figures_group();
     order_figures_group();
     refusals_group();
+    batch_group();
     revived_group(2, 3);
     revived_group(3, 2);
     revived_group(5, 2);

@@ -103,7 +103,7 @@ name == "" && /^[a-z]/ {
     if (key in root || key in settles) found[FILENAME, name] = 1
 }
 
-name == "" && /^  pub [a-z]/ {
+name == "" && /^  (abbrev |unfoldable )?pub [a-z]|^  abbrev / {
     text = $0
     sub(/^ */, "", text)
     name = defined(text)

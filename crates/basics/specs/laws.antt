@@ -5,6 +5,8 @@ pub mod Test
 pub mod Member
 pub mod All
 pub mod Flat
+pub mod Parts
+pub mod Product
 pub mod Table
 pub mod TableSize
 pub mod TableLaws

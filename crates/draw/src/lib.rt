@@ -1,22 +1,30 @@
 // Draw: index to matrix.
 ghost use mathlib.Core.Path.{_≡_};
+ghost use Prim.Native.Nat.{_*_};
 ghost use lib.ListN.{length};
+ghost use Rattle.counts.specs.Gaussian.{gaussian};
+ghost use Rattle.numbering.specs.Numbering.{choiceRefusal};
 ghost use Rattle.draw.specs.Draw.{drawRefusal, drawBuffer};
 
-// The first refusal of Draw that applies; 0 where none does.
-fn draw_refusal(q: u64, n: u64, k: u64, t: u64, index: u64, size: usize) -> u32
-    ensures { λ r. ⌜ r ≡ drawRefusal q n k t index size ⌝ }
+// Draw past its tests of settings, numbering and length: writes the reduced matrix with the given index, or leaves the buffer where the index
+// is `total` or more, which is N. Answers 0, or the refusal, which is 5.
+pub fn draw_index(
+    matrix: &mut [u8],
+    q: u64,
+    n: usize,
+    k: usize,
+    t: u64,
+    total: u64,
+    index: u64,
+) -> u8
+    requires { ⌜ (choiceRefusal q n k t ≡ 0) × (total ≡ gaussian q n k) × (length (now matrix) ≡ k * n) ⌝ }
+    ensures { λ r. ⌜ r ≡ drawRefusal q n k t index (k * n) ⌝ }
+    ensures { λ _. ⌜ now (matrix .exit) ≡ drawBuffer q n k t index (now (matrix .entry)) ⌝ }
 {
-    let choice = numbering::choice_refusal(q, n, k, t);
-    if choice != 0 {
-        return choice;
+    if total <= index {
+        return refusal::INDEX as u8;
     }
-    if size as u64 != k * n {
-        return refusal::LENGTH;
-    }
-    if counts::coefficient(q, n, k) <= index {
-        return refusal::INDEX;
-    }
+    numbering::unrank(matrix, q, n, k, t, index);
     0
 }
 
@@ -26,10 +34,13 @@ pub fn draw(q: u64, n: u64, k: u64, t: u64, index: u64, matrix: &mut [u8]) -> u3
     ensures { λ r. ⌜ r ≡ drawRefusal q n k t index (length (now (matrix .entry))) ⌝ }
     ensures { λ _. ⌜ now (matrix .exit) ≡ drawBuffer q n k t index (now (matrix .entry)) ⌝ }
 {
-    let refusal = draw_refusal(q, n, k, t, index, matrix.len());
-    if refusal != 0 {
-        return refusal;
+    let choice = numbering::choice_refusal(q, n, k, t);
+    if choice != 0 {
+        return choice;
     }
-    numbering::unrank(matrix, q, n as usize, k as usize, t, index);
-    0
+    if matrix.len() as u64 != k * n {
+        return refusal::LENGTH;
+    }
+    let total = counts::coefficient(q, n, k);
+    draw_index(matrix, q, n as usize, k as usize, t, total, index) as u32
 }

@@ -1,8 +1,9 @@
-// The functions for C: the pack's firmware calls Draw, the cabinet's daemon calls Receive.
+// The functions for C: the pack's firmware calls Draw, the fleet server draws batches, the cabinet's daemon calls Receive.
 ghost use mathlib.Core.Path.{_≡_};
 ghost use Prim.Native.Nat.{_<_};
 ghost use lib.ListN.{length};
 ghost use Rattle.draw.specs.Draw.{drawRefusal, drawBuffer};
+ghost use Rattle.draw_batch.specs.Batch.{batchRefusal, batchMatrices, batchAnswers};
 ghost use Rattle.numbering.specs.Numbering.{indexValue};
 ghost use Rattle.receive.specs.Answer.{receivedNumber, receivedDimension};
 ghost use Rattle.pandrwyg.specs.Exported.{answerSize, answerBytes, leftBytes, exportedRefusal};
@@ -25,6 +26,29 @@ pub extern "C" fn pandrwyg_draw(
     ensures { λ _. ⌜ now (matrix .exit) ≡ drawBuffer q n k t index (now (matrix .entry)) ⌝ }
 {
     draw::draw(q, n, k, t, index, matrix)
+}
+
+// Draws a list of indexes for C: the reduced matrix of each index of the numbering t goes to its k×n bytes of `matrices`, and 0 to its byte
+// of `answers`. An index of N or more leaves its k×n bytes, and its answer is 5. Refuses the whole 1, 2, 3, 10, 4 (either buffer is not
+// exactly as long as the list needs), and then leaves both buffers.
+#[no_mangle]
+pub extern "C" fn pandrwyg_draw_batch(
+    q: u64,
+    n: u64,
+    k: u64,
+    t: u64,
+    indexes: &[u64],
+    matrices: &mut [u8],
+    answers: &mut [u8],
+) -> u32
+    ensures { λ r. ⌜ r
+        ≡ batchRefusal q n k t (length (now (indexes .entry))) (length (now (matrices .entry))) (length (now (answers .entry))) ⌝ }
+    ensures { λ _. ⌜ now (matrices .exit)
+        ≡ batchMatrices q n k t (now (indexes .entry)) (now (matrices .entry)) (length (now (answers .entry))) ⌝ }
+    ensures { λ _. ⌜ now (answers .exit)
+        ≡ batchAnswers q n k t (now (indexes .entry)) (length (now (matrices .entry))) (now (answers .entry)) ⌝ }
+{
+    draw_batch::draw_batch(q, n, k, t, indexes, matrices, answers)
 }
 
 // The bytes of a lent answer: the index in eight, the dimension in one, the identifying vector in two.

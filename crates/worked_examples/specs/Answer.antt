@@ -18,6 +18,7 @@ use Rattle.ferrers.specs.Ferrers.{size, diagram, diagramPlace, largerDiagrams, 
 use Rattle.listing.specs.Listing.{listingOutput}
 use Rattle.text.specs.Piece.{fits, placeAfter, bufferAfter}
 use Rattle.draw.specs.Draw.{drawRefusal, drawBuffer}
+use Rattle.draw_batch.specs.Batch.{batchRefusal, batchMatrices, batchAnswers}
 use Rattle.number.specs.Number.{numberOf, answerNumber, answerIndex}
 use Rattle.convert.specs.Convert.{convertOf}
 use Rattle.reduce.specs.Reduce.{reduceOf, reduceBuffer, reductionNumber, reductionDimension, reductionVector}
@@ -33,6 +34,7 @@ use Rattle.pandrwyg.specs.Exported.{exportedNumber, exportedBytes}
 pub data Call : Type 0 where
   count : (q n k : ℕ) → Call
   draw : (q n k t i : ℕ) (buffer : List ℕ) → Call
+  drawBatch : (q n k t : ℕ) (indexes matrices answers : List ℕ) → Call
   number : (q n k t : ℕ) (m : List ℕ) → Call
   convert : (q n k from to i : ℕ) → Call
   reduce : (q n r : ℕ) (rows output : List ℕ) → Call
@@ -68,6 +70,10 @@ takes a = takeNumber a ∷ bit (takeRaised a) ∷ bit (takeIdle a) ∷ []
 abbrev pub answer : Call → List ℕ
 answer (count q n k) = countNumber (countOf q n k) ∷ countValue (countOf q n k) ∷ []
 answer (draw q n k t i buffer) = drawRefusal q n k t i (length buffer) ∷ drawBuffer q n k t i buffer
+answer (drawBatch q n k t indexes matrices answers) =
+    batchRefusal q n k t (length indexes) (length matrices) (length answers)
+    ∷ batchMatrices q n k t indexes matrices (length answers)
+    ++ batchAnswers q n k t indexes (length matrices) answers
 answer (number q n k t m) = answerNumber (numberOf q n k t m) ∷ answerIndex (numberOf q n k t m) ∷ []
 answer (convert q n k from to i) = answerNumber (convertOf q n k from to i) ∷ answerIndex (convertOf q n k from to i) ∷ []
 answer (reduce q n r rows output) =

@@ -33,6 +33,7 @@ use Rattle.linear.specs.Span.{combinationAt, combination, InSpan, SameSpan, row
 use Rattle.refusal.specs.Refusal.{refuseUnless, first, unlessRefused}
 use Rattle.numbering.specs.Numbering.{isNumbering, numberingOf, choiceRefusal}
 use Rattle.draw.specs.Draw.{drawRefusal, drawBuffer}
+use Rattle.draw_batch.specs.Batch.{batchRefusal, drawParts, drawAnswers, batchMatrices, batchAnswers}
 use Rattle.number.specs.Number.{entriesRefusal, numberRefusal, numberOf}
 use Rattle.convert.specs.Convert.{convertRefusal, convertOf}
 use Rattle.reduce.specs.Reduce.{reduceRefusal, reduceOf, reduceBuffer}
@@ -80,7 +81,8 @@ unfolding placeAfter bufferAfter listingOutput columnNames header linesFrom list
     tableauValue diagramTerm diagramPlace largerDiagrams ferrersIndex shapeSize boxCount shapePlace shapeTableau ferrersRank diagramShape
     sizedShape ferrersShape drawnFerrers leadOf eliminate residue monic putAmong insertResidue insertRow insertRows reducedRows join
     reducedOf dimension combinationAt combination InSpan SameSpan rowsOf HasDimension refuseUnless first unlessRefused isNumbering
-    numberingOf choiceRefusal drawRefusal drawBuffer entriesRefusal numberRefusal numberOf reduceRefusal reduceBuffer spaceAnswer
+    numberingOf choiceRefusal drawRefusal drawBuffer batchRefusal drawParts drawAnswers batchMatrices batchAnswers entriesRefusal
+    numberRefusal numberOf reduceRefusal reduceBuffer spaceAnswer
     rowsRefusal receiveRefusal receiveOf allBelow sum sumRange value tabulate padded refusedWord refusedLine reduceOf convertRefusal
     convertOf startOf wellFormed heldRows holding takeRefusal takenIn takeOf closeRefusal closeOf bytesOf exportedRefusal
     exportedNumber exportedOf exportedBytes spaceRefusal jointOf jointDimension wide wideRows stacked rightHalves commonRows commonOf

@@ -6,9 +6,8 @@ use Prim.Native.Nat.{ℕ}
 use lib.ListN.{replicate}
 use Rattle.receiver.specs.declared.Receiver.{Receiver}
 use Rattle.worked_examples.specs.Answer.{Example, _⇒_, lent, receiver, image, paper}
-use Rattle.worked_examples.specs.Answer.{count, draw, number, convert, reduce, receive, receiveC, start, takeValue, takeLent, close}
-use Rattle.worked_examples.specs.Answer.{pool}
-use Rattle.worked_examples.specs.Answer.{list, write}
+use Rattle.worked_examples.specs.Answer.{count, draw, drawBatch, number, convert, reduce, receive, receiveC}
+use Rattle.worked_examples.specs.Answer.{start, takeValue, takeLent, close, pool, list, write}
 
 -- receivers of 2,3,2 that hold no row, the row 110, the rows 101/011, and all three unit rows; one of 2,3,1 that holds 010
 abbrev noRows : Receiver
@@ -129,6 +128,33 @@ refusals =
     -- and where none applies the matrix is left
     ∷ (draw 2 3 1 1 2 (lent 3) ⇒ (0 ∷ (0 ∷ 1 ∷ 0 ∷ [])))
     ∷ (draw 2 3 1 2 2 (lent 3) ⇒ (0 ∷ (1 ∷ 0 ∷ 1 ∷ [])))
+    -- Drawing a list: each refusal of the whole alone leaves both buffers, the matrices of 165s and then the answers of 9s
+    ∷ (drawBatch 4 3 1 1 (0 ∷ 1 ∷ []) (lent 6) (9 ∷ 9 ∷ []) ⇒ (1 ∷ lent 6 ++ (9 ∷ 9 ∷ [])))
+    ∷ (drawBatch 2 17 1 1 (0 ∷ 1 ∷ []) (lent 34) (9 ∷ 9 ∷ []) ⇒ (2 ∷ lent 34 ++ (9 ∷ 9 ∷ [])))
+    ∷ (drawBatch 7 10 5 1 (0 ∷ []) (lent 50) (9 ∷ []) ⇒ (3 ∷ lent 50 ++ (9 ∷ [])))
+    ∷ (drawBatch 2 3 1 0 (0 ∷ 1 ∷ []) (lent 6) (9 ∷ 9 ∷ []) ⇒ (10 ∷ lent 6 ++ (9 ∷ 9 ∷ [])))
+    ∷ (drawBatch 2 3 1 3 (0 ∷ 1 ∷ []) (lent 6) (9 ∷ 9 ∷ []) ⇒ (10 ∷ lent 6 ++ (9 ∷ 9 ∷ [])))
+    ∷ (drawBatch 2 3 1 1 (0 ∷ 1 ∷ []) (lent 5) (9 ∷ 9 ∷ []) ⇒ (4 ∷ lent 5 ++ (9 ∷ 9 ∷ [])))
+    ∷ (drawBatch 2 3 1 1 (0 ∷ 1 ∷ []) (lent 7) (9 ∷ 9 ∷ []) ⇒ (4 ∷ lent 7 ++ (9 ∷ 9 ∷ [])))
+    ∷ (drawBatch 2 3 1 1 (0 ∷ 1 ∷ []) (lent 6) (9 ∷ []) ⇒ (4 ∷ lent 6 ++ (9 ∷ [])))
+    ∷ (drawBatch 2 3 1 1 (0 ∷ 1 ∷ []) (lent 6) (9 ∷ 9 ∷ 9 ∷ []) ⇒ (4 ∷ lent 6 ++ (9 ∷ 9 ∷ 9 ∷ [])))
+    -- and of two neighbours the first is told
+    ∷ (drawBatch 4 17 1 1 (0 ∷ []) (lent 17) (9 ∷ []) ⇒ (1 ∷ lent 17 ++ (9 ∷ [])))
+    ∷ (drawBatch 2 17 8 1 (0 ∷ []) (lent 3) (9 ∷ []) ⇒ (2 ∷ lent 3 ++ (9 ∷ [])))
+    ∷ (drawBatch 7 10 5 3 (0 ∷ []) (lent 50) (9 ∷ []) ⇒ (3 ∷ lent 50 ++ (9 ∷ [])))
+    ∷ (drawBatch 2 3 1 3 (0 ∷ []) (lent 1) (9 ∷ []) ⇒ (10 ∷ lent 1 ++ (9 ∷ [])))
+    ∷ (drawBatch 2 3 1 3 (0 ∷ []) (lent 3) [] ⇒ (10 ∷ lent 3))
+    -- and where none applies each place is answered by itself: indexes of 7 and more, which is N, keep their part
+    ∷ (drawBatch 2 3 1 1 (5 ∷ 7 ∷ 2 ∷ []) (1 ∷ 2 ∷ 3 ∷ 4 ∷ 5 ∷ 6 ∷ 7 ∷ 8 ∷ 9 ∷ []) (9 ∷ 9 ∷ 9 ∷ [])
+    ⇒ (0 ∷ (0 ∷ 1 ∷ 1 ∷ 4 ∷ 5 ∷ 6 ∷ 0 ∷ 1 ∷ 0 ∷ []) ++ (0 ∷ 5 ∷ 0 ∷ [])))
+    ∷ (drawBatch 2 3 1 2 (7 ∷ 2 ∷ 2 ∷ 8 ∷ []) (1 ∷ 2 ∷ 3 ∷ 4 ∷ 5 ∷ 6 ∷ 7 ∷ 8 ∷ 9 ∷ 10 ∷ 11 ∷ 12 ∷ []) (9 ∷ 9 ∷ 9 ∷ 9 ∷ [])
+    ⇒ (0 ∷ (1 ∷ 2 ∷ 3 ∷ 1 ∷ 0 ∷ 1 ∷ 1 ∷ 0 ∷ 1 ∷ 10 ∷ 11 ∷ 12 ∷ []) ++ (5 ∷ 0 ∷ 0 ∷ 5 ∷ [])))
+    -- an empty list is fine, and so are empty parts
+    ∷ (drawBatch 2 3 1 1 [] [] [] ⇒ (0 ∷ []))
+    ∷ (drawBatch 2 3 1 1 [] (lent 1) [] ⇒ (4 ∷ lent 1))
+    ∷ (drawBatch 2 3 1 1 [] [] (9 ∷ []) ⇒ (4 ∷ 9 ∷ []))
+    ∷ (drawBatch 2 3 0 1 (0 ∷ 1 ∷ 0 ∷ []) [] (9 ∷ 9 ∷ 9 ∷ []) ⇒ (0 ∷ 0 ∷ 5 ∷ 0 ∷ []))
+    ∷ (drawBatch 2 3 0 2 (0 ∷ []) (lent 1) (9 ∷ []) ⇒ (4 ∷ lent 1 ++ (9 ∷ [])))
     -- Number
     ∷ (number 4 3 1 1 (0 ∷ 1 ∷ 0 ∷ []) ⇒ (1 ∷ 0 ∷ []))
     ∷ (number 2 17 1 1 (0 ∷ 1 ∷ 0 ∷ []) ⇒ (2 ∷ 0 ∷ []))

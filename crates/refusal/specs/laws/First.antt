@@ -1,6 +1,7 @@
 -- A list of tests: which refusal it comes to, and what holds where it comes to none. No part of the meaning.
 --   first-refused, first-passed == the first of the list applies; it is 0, and the rest decides
 --   test-refused, test-passed   == the same of a test
+--   positive                    == a number above 0 is a refusal
 --   first-none, first-one       == no test is left; one is
 --   first-zero, test-zero       == the list comes to no refusal: not the first, and none of the rest
 --   kept, done                  == what is answered or left, refused or not
@@ -12,7 +13,7 @@ use mathlib.Core.List.{List, [], _∷_}
 use Prim.Native.Nat.{ℕ}
 use native.Mathlib.Decide.{ℕ-discrete}
 use borrow.Author.Tests.{eq-eqb, ne-eqb}
-use lib.Dec.{T, eqb, ltb}
+use lib.Dec.{T, ltb}
 use Rattle.refusal.specs.Refusal.{refuseUnless, first, unlessRefused}
 
 pub first-none : first [] ≡ 0
@@ -42,8 +43,7 @@ first-one refusal = cases (ℕ-discrete refusal 0)
     cases (yes z) = first-passed refusal [] z ∙ first-none ∙ sym z
     cases (no z) = first-refused refusal [] z
 
--- a number above 0 is a refusal
-positive : (refusal : ℕ) → T (ltb 0 refusal) → refusal ≡ 0 → ⊥
+pub positive : (refusal : ℕ) → T (ltb 0 refusal) → refusal ≡ 0 → ⊥
 positive refusal t e = rw e at t
 
 pub test-refused : (b : Bool) (refusal : ℕ) (rest : List ℕ) → T (ltb 0 refusal) → b ≡ false

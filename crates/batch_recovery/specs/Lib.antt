@@ -1,0 +1,2 @@
+-- batch_recovery: records that are drawn in one call come back, and list every matrix once.
+pub mod Theorem
