@@ -1,6 +1,7 @@
 -- What demand 3 says of Draw, of a list of indexes that is drawn in one call and not refused.
---   batch-recovers == at a place that is answered 0 the part is a drawn matrix: from mixtures of its rows, by every list of calls and by
---                     Receive, the place's index comes back as demand 3 says
+--   batch-recovers == at a place that is answered 0 the part is a drawn matrix: Number gives the place's index back, and so do, as demand 3
+--                     says, mixtures of its rows, by every list of calls and by Receive
+--   batch-otherwise == at a place that is not, the index is N or more, the answer is 5, and the part is as it was
 --   batch-lists    == the list of 0 to N-1 is answered 0 throughout, and leaves every reduced matrix in exactly one place, strictly rising
 -- Assumes nothing.
 use mathlib.Core.Path.{_≡_, ap, sym, _∙_, subst, subst₂}
@@ -16,12 +17,15 @@ use Rattle.counts.specs.Gaussian.{gaussian}
 use Rattle.settings.specs.laws.Accepted.{not-refused}
 use Rattle.matrix.specs.Matrix.{Reduced}
 use Rattle.linear.specs.Span.{All, Mixed, rowsOf}
-use Rattle.numbering.specs.Numbering.{before}
+use Rattle.numbering.specs.Numbering.{before, indexIn}
 use Rattle.numbering.specs.laws.Chosen.{chosen}
 use Rattle.draw.specs.Draw.{drawBuffer}
 use Rattle.draw_batch.specs.Batch.{batchRefusal, batchMatrices, batchAnswers}
 use Rattle.draw_batch.specs.Places.{part, Place, order-6}
 use Rattle.draw_batch.specs.laws.BatchAccepted.{BatchAccepted, batch-accepted}
+use Rattle.number.specs.Number.{numberOf}
+use Rattle.number.specs.declared.Numbered.the-variants.{Done}
+use Rattle.number.specs.laws.NumberAccepted.{reduced-numbered}
 use Rattle.reduce.specs.Reduce.{mostRows}
 use Rattle.recovery.specs.Calls.{Call, begun, accepted}
 use Rattle.recovery.specs.Demand.{Buffer, Listing, Recovery, Reception, Demand}
@@ -66,18 +70,36 @@ module _ (q n k t : ℕ) (indexes matrices answers : List ℕ)
 
   pub batch-recovers : (place : ℕ) → place < length indexes → answer place ≡ 0
       → (indexAt place < gaussian q n k)
+      × (numberOf q n k t (left place) ≡ Done (indexIn t (indexAt place)))
       × ((cs : List Call) → All (Mixed q n (rowsOf n k (left place))) (accepted (begun q n k) cs) → Recovery q n k t (indexAt place) cs)
       × ((rows : List (List ℕ)) → length rows ≤ mostRows → All (Mixed q n (rowsOf n k (left place))) rows
       → Reception q n k t (indexAt place) rows)
   batch-recovers place h z =
       let l = below place h z in
-      let e = drawing place h .leaves in (
+      let e = drawing place h .leaves in
+      let d = drawing place h .done l in (
         l,
+        reduced-numbered q n k t (left place) (whole .choice) (d .1) ∙ ap (λ x. Done (indexIn t x)) (d .2),
         λ cs m. demand .recovery (indexAt place) l (lent place) (sized place h) cs
             (subst (λ x. All (Mixed q n (rowsOf n k x)) (accepted (begun q n k) cs)) e m),
         λ rows few m. demand .reception (indexAt place) l (lent place) (sized place h) rows few
             (subst (λ x. All (Mixed q n (rowsOf n k x)) rows) e m),
       )
+
+  -- and no other index is refused
+  above : (place : ℕ) → place < length indexes → (answer place ≡ 0 → ⊥) → gaussian q n k ≤ indexAt place
+  above place h refused = cases (le-or-lt (gaussian q n k) (indexAt place))
+    where
+      cases : (gaussian q n k ≤ indexAt place) ⊎ (indexAt place < gaussian q n k) → gaussian q n k ≤ indexAt place
+      cases (inl g) = g
+      cases (inr l) = absurd (refused (drawing place h .done l .0))
+
+  pub batch-otherwise : (place : ℕ) → place < length indexes → (answer place ≡ 0 → ⊥)
+      → (gaussian q n k ≤ indexAt place) × (answer place ≡ 5) × (left place ≡ lent place)
+  batch-otherwise place h refused =
+      let g = above place h refused in
+      let b = drawing place h .beyond g in
+      (g, b .0, b .1)
 
   pub batch-lists : length indexes ≡ gaussian q n k → ((i : ℕ) → i < gaussian q n k → indexAt i ≡ i)
       → ((i : ℕ) → i < gaussian q n k → (answer i ≡ 0) × Reduced q n k (left i))

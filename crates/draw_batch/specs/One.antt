@@ -54,12 +54,16 @@ module _ (q n k t i : ℕ) (matrix answers : List ℕ) where
       )
 
   -- no refusal of the whole
-  drawn : length answers ≡ 1 → length matrix ≡ k * n → returned ≡ 0 → AsDraw
-  drawn one sized z =
+  drawn : choiceRefusal q n k t ≡ 0 → returned ≡ 0 → AsDraw
+  drawn c z =
       let all = order-6 q n k t (i ∷ []) matrix answers in
-      let place = all .0 z 0 (omega arith) in (
+      let place = all .0 z 0 (omega arith) in
+      let lengths = all .3 c .0 .0 z in
+      let sized : length matrix ≡ k * n = omega (arith, lengths .0) in (
         sym (whole left (all .4 ∙ sized)) ∙ place .0 ∙ ap (drawBuffer q n k t i) (whole matrix sized),
-        λ _. single told (all .5 ∙ one) ∙ ap (λ x. x ∷ []) (place .1 ∙ ap (λ b. drawRefusal q n k t i (length b)) (whole matrix sized)),
+        λ _.
+            single told (all .5 ∙ lengths .1)
+            ∙ ap (λ x. x ∷ []) (place .1 ∙ ap (λ b. drawRefusal q n k t i (length b)) (whole matrix sized)),
         λ o. absurd (o z),
       )
 
@@ -73,4 +77,4 @@ module _ (q n k t i : ℕ) (matrix answers : List ℕ) where
           let lengths = order-6 q n k t (i ∷ []) matrix answers .3 c in
           refused lengthRefusal (positive lengthRefusal tt) (lengths .1 (λ z. l (omega (arith, lengths .0 .0 z .0))))
           (draw-sized q n k t i (length matrix) c l)
-      cases (yes c) (yes l) = drawn one l (order-6 q n k t (i ∷ []) matrix answers .3 c .0 .1 (omega (arith, l), one))
+      cases (yes c) (yes l) = drawn c (order-6 q n k t (i ∷ []) matrix answers .3 c .0 .1 (omega (arith, l), one))
