@@ -7,7 +7,7 @@
  *   plain    plain C through the same interface: a receiver goes in by value and comes back by value, as with the
  *            library. It has one Take, which stands beside both of the library's
  *   packed   Reduce and Receive at q = 2 beside an expert's C with rows as 16-bit words (packed.h)
- *   FLINT    Reduce beside nmod_mat_rref, where WITH_FLINT is defined
+ *   FLINT    Reduce at the primes beside nmod_mat_rref, where WITH_FLINT is defined
  *   a row    Take beside the library's own Receive of 64 rows, whose time is divided by 64: what a row costs there
  *   alone    Draw a batch beside the library's own Draw, called for each index of the same list to write the same bytes
  *
@@ -92,14 +92,14 @@ static size_t square(void)
     return (size_t)(now.n * now.n);
 }
 
-/* A random linear combination of the matrix's rows. */
+/* A random linear combination of the matrix's rows: each is taken away a random number of times. */
 static void mix(const uint8_t *matrix, uint8_t *row)
 {
     memset(row, 0, (size_t)now.n);
     for (uint64_t at = 0; at < now.k; at++) {
         uint64_t factor = random_below(now.q);
         for (uint64_t column = 0; column < now.n; column++)
-            row[column] = (uint8_t)((row[column] + factor * matrix[at * now.n + column]) % now.q);
+            row[column] = plain_fields[now.q].less_product[factor][matrix[at * now.n + column]][row[column]];
     }
 }
 
@@ -181,10 +181,9 @@ static void prepare_closes(setting s, uint64_t chosen)
 
 static void prepare_counts(void)
 {
-    static const uint64_t sizes[] = {2, 3, 5, 7};
     for (unsigned input = 0; input < INPUTS; input++) {
         uint64_t n = 1 + random_below(PLAIN_LENGTH);
-        counted[input] = (setting){sizes[random_below(4)], n, random_below(n + 1)};
+        counted[input] = (setting){plain_sizes[random_below(PLAIN_SIZES)], n, random_below(n + 1)};
     }
 }
 
@@ -606,6 +605,8 @@ static void compare_reduce(uint64_t q, uint64_t n)
     if (q == 2)
         compare_units("reduce, packed", name, INPUTS, 1, reduce_library, reduce_packed);
 #ifdef WITH_FLINT
+    if (q == 4 || q == 8)
+        return;
     prepare_flint();
     compare_units("reduce, FLINT", "  FLINT", INPUTS, 1, reduce_library, reduce_flint);
     clear_flint();
@@ -614,10 +615,9 @@ static void compare_reduce(uint64_t q, uint64_t n)
 
 static void compare_reduces(void)
 {
-    static const uint64_t sizes[] = {2, 3, 5, 7};
-    for (unsigned place = 0; place < COUNT_OF(sizes); place++)
+    for (unsigned place = 0; place < PLAIN_SIZES; place++)
         for (uint64_t n = 1; n <= PLAIN_LENGTH; n++)
-            compare_reduce(sizes[place], n);
+            compare_reduce(plain_sizes[place], n);
 }
 
 static void compare_list(setting s, int null)
@@ -645,7 +645,8 @@ static void compare_lists(void)
 
 static void compare_all(void)
 {
-    static const setting chosen[] = {{2, 6, 3}, {2, 16, 6}, {2, 16, 10}, {3, 12, 5}, {5, 10, 4}, {7, 9, 4}};
+    static const setting chosen[] = {{2, 6, 3}, {2, 16, 6}, {2, 16, 10}, {3, 12, 5}, {4, 10, 4}, {4, 16, 2}, {5, 10, 4},
+                                     {7, 9, 4}, {8, 8, 3}};
     printf("%-44s %12s %12s %9s\n", "call", "library ns", "other ns", "ratio");
     prepare_counts();
     compare_units("count", "count, 64 settings", INPUTS, 1, count_library, count_plain);
@@ -708,11 +709,11 @@ static size_t stack_reach(void (*call)(void))
 static size_t stack_use(void (*call)(void))
 {
     size_t most = 0, empty = stack_reach(call_nothing);
-    for (unsigned code = 0; code < 8 * 17 * 17 * 2; code++) {
-        setting s = {code % 8, code / 8 % 17, code / 8 / 17 % 17};
+    for (unsigned code = 0; code < 9 * 17 * 17 * 2; code++) {
+        setting s = {code % 9, code / 9 % 17, code / 9 / 17 % 17};
         if (plain_count(s.q, s.n, s.k).refusal != PLAIN_DONE)
             continue;
-        prepare(s, 1 + code / 8 / 17 / 17, PLAIN_ROWS);
+        prepare(s, 1 + code / 9 / 17 / 17, PLAIN_ROWS);
         call();
         size_t reach = stack_reach(call);
         most = reach > most ? reach : most;

@@ -12,11 +12,10 @@ static uint64_t partitions(unsigned k, unsigned eta, int m)
     return m < 0 || m > (int)(k * eta) ? 0 : plain_partitions[k][eta][m];
 }
 
-/* A division by a constant is much quicker than one by q. */
+/* A division by a constant is much quicker than one by q; by 2, 4 and 8 nothing is divided. */
 static inline uint64_t divide(uint64_t q, uint64_t value)
 {
     switch (q) {
-    case 2: return value / 2;
     case 3: return value / 3;
     case 5: return value / 5;
     default: return value / 7;
@@ -31,9 +30,21 @@ static inline uint64_t read_digits(uint64_t q, uint64_t value, const uint8_t *co
     return value;
 }
 
+/* Digits in base 2, 4 or 8, which are so many bits each. */
+static inline uint64_t write_bits(unsigned bits, uint64_t value, uint8_t *column, unsigned n, unsigned digits)
+{
+    while (digits-- > 0) {
+        column[digits * n] = (uint8_t)(value & ((1u << bits) - 1));
+        value >>= bits;
+    }
+    return value;
+}
+
 /* Writes the last digits of a number in base q from the top of a column, and answers the digits before them. */
 static inline uint64_t write_digits(uint64_t q, uint64_t value, uint8_t *column, unsigned n, unsigned digits)
 {
+    if ((q & (q - 1)) == 0)
+        return write_bits((unsigned)__builtin_ctzll(q), value, column, n, digits);
     while (digits-- > 0) {
         uint64_t quotient = divide(q, value);
         column[digits * n] = (uint8_t)(value - quotient * q);

@@ -12,6 +12,11 @@
 #include <stdio.h>
 
 enum { PLAIN_LENGTH = 16, PLAIN_ROWS = 64, PLAIN_ENTRIES = 256, PLAIN_FIELD = 8, PLAIN_DOTS = 64, PLAIN_ANSWER = 11 };
+
+/* The field sizes, of which PLAIN_FIELD is the greatest. */
+enum { PLAIN_SIZES = 6 };
+extern const unsigned plain_sizes[PLAIN_SIZES];
+
 enum { PLAIN_EXTENDED = 1, PLAIN_FERRERS = 2 };
 
 /* Document 01's refusals, as far as plain C gives them. */
@@ -68,13 +73,13 @@ typedef struct {
     uint8_t inverse[PLAIN_FIELD];
 } plain_field;
 
-extern plain_field plain_fields[PLAIN_FIELD];
-extern uint64_t plain_powers[PLAIN_FIELD][PLAIN_DOTS + 1];
-extern uint64_t plain_gaussian[PLAIN_FIELD][PLAIN_LENGTH + 1][PLAIN_LENGTH + 1];
+extern plain_field plain_fields[PLAIN_FIELD + 1];
+extern uint64_t plain_powers[PLAIN_FIELD + 1][PLAIN_DOTS + 1];
+extern uint64_t plain_gaussian[PLAIN_FIELD + 1][PLAIN_LENGTH + 1][PLAIN_LENGTH + 1];
 
 /* p(k, eta, m), and by q, k, eta and m how many spaces have more than m dots. */
 extern uint32_t plain_partitions[PLAIN_LENGTH + 1][PLAIN_LENGTH + 1][PLAIN_DOTS + 1];
-extern uint64_t plain_tails[PLAIN_FIELD][PLAIN_LENGTH + 1][PLAIN_LENGTH + 1][PLAIN_DOTS + 1];
+extern uint64_t plain_tails[PLAIN_FIELD + 1][PLAIN_LENGTH + 1][PLAIN_LENGTH + 1][PLAIN_DOTS + 1];
 
 /* Refusals 1, 2 and 3; then 10. */
 uint32_t plain_setting(uint64_t q, uint64_t n, uint64_t k);
@@ -82,7 +87,7 @@ uint32_t plain_choice(uint64_t q, uint64_t n, uint64_t k, uint64_t numbering);
 
 static inline bool plain_is_field(uint64_t q)
 {
-    return q == 2 || q == 3 || q == 5 || q == 7;
+    return q == 2 || q == 3 || q == 4 || q == 5 || q == 7 || q == 8;
 }
 
 /* The greatest entry; 0 where there is none. There is no way out of the loop, so that many are compared in one step. */

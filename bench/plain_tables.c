@@ -1,22 +1,53 @@
 /* The tables of the plain C, filled once: fields, powers, Gaussian coefficients by formula (4), partitions. */
 #include "plain.h"
 
-plain_field plain_fields[PLAIN_FIELD];
-uint64_t plain_powers[PLAIN_FIELD][PLAIN_DOTS + 1];
-uint64_t plain_gaussian[PLAIN_FIELD][PLAIN_LENGTH + 1][PLAIN_LENGTH + 1];
+const unsigned plain_sizes[PLAIN_SIZES] = {2, 3, 4, 5, 7, PLAIN_FIELD};
+plain_field plain_fields[PLAIN_FIELD + 1];
+uint64_t plain_powers[PLAIN_FIELD + 1][PLAIN_DOTS + 1];
+uint64_t plain_gaussian[PLAIN_FIELD + 1][PLAIN_LENGTH + 1][PLAIN_LENGTH + 1];
 uint32_t plain_partitions[PLAIN_LENGTH + 1][PLAIN_LENGTH + 1][PLAIN_DOTS + 1];
-uint64_t plain_tails[PLAIN_FIELD][PLAIN_LENGTH + 1][PLAIN_LENGTH + 1][PLAIN_DOTS + 1];
+uint64_t plain_tails[PLAIN_FIELD + 1][PLAIN_LENGTH + 1][PLAIN_LENGTH + 1][PLAIN_DOTS + 1];
+
+/* Powers of t in four and eight, from t^0: t^2 = t + 1, and t^3 = t + 1. Each entry but 0 is one of them. */
+static const uint8_t powers_in_four[] = {1, 2, 3}, powers_in_eight[] = {1, 2, 4, 3, 6, 7, 5};
+
+static unsigned product_by_powers(unsigned q, const uint8_t *powers, unsigned a, unsigned b)
+{
+    unsigned exponent = 0;
+    if (a == 0 || b == 0)
+        return 0;
+    while (powers[exponent] != a)
+        exponent++;
+    for (unsigned other = 0; powers[other] != b; other++)
+        exponent++;
+    return powers[exponent % (q - 1)];
+}
+
+static unsigned product(unsigned q, unsigned a, unsigned b)
+{
+    switch (q) {
+    case 4: return product_by_powers(q, powers_in_four, a, b);
+    case 8: return product_by_powers(q, powers_in_eight, a, b);
+    default: return a * b % q;
+    }
+}
+
+/* Bit by bit in four and eight, where a difference is a sum. */
+static unsigned difference(unsigned q, unsigned a, unsigned b)
+{
+    return q == 4 || q == 8 ? a ^ b : (a + q - b) % q;
+}
 
 static void fill_field(unsigned q)
 {
     plain_field *field = &plain_fields[q];
     for (unsigned a = 0; a < q; a++)
         for (unsigned b = 0; b < q; b++) {
-            field->product[a][b] = (uint8_t)(a * b % q);
-            if (a * b % q == 1)
+            field->product[a][b] = (uint8_t)product(q, a, b);
+            if (product(q, a, b) == 1)
                 field->inverse[a] = (uint8_t)b;
             for (unsigned c = 0; c < q; c++)
-                field->less_product[a][b][c] = (uint8_t)((c + q * q - a * b) % q);
+                field->less_product[a][b][c] = (uint8_t)difference(q, c, product(q, a, b));
         }
 }
 
@@ -75,12 +106,11 @@ static void fill_tails(unsigned q)
 
 void plain_init(void)
 {
-    static const unsigned sizes[] = {2, 3, 5, 7};
     fill_partitions();
-    for (unsigned place = 0; place < 4; place++) {
-        fill_field(sizes[place]);
-        fill_powers(sizes[place]);
-        fill_gaussian(sizes[place]);
-        fill_tails(sizes[place]);
+    for (unsigned place = 0; place < PLAIN_SIZES; place++) {
+        fill_field(plain_sizes[place]);
+        fill_powers(plain_sizes[place]);
+        fill_gaussian(plain_sizes[place]);
+        fill_tails(plain_sizes[place]);
     }
 }

@@ -9,7 +9,7 @@
 
 /* Document 01's words for the refusals of Draw and Receive. */
 static const char *const refusal_words[] = {
-    [PANDRWYG_FIELD_SIZE] = "q is none of 2, 3, 5 and 7",
+    [PANDRWYG_FIELD_SIZE] = "q is none of 2, 3, 4, 5, 7 and 8",
     [PANDRWYG_SHAPE] = "n is outside 1 to 16 or k exceeds n",
     [PANDRWYG_COUNT] = "the number of spaces exceeds 2^64 - 1",
     [PANDRWYG_LENGTH] = "a lent buffer has a wrong length",

@@ -21,7 +21,40 @@ static uint64_t random_below(uint64_t bound)
     return (mixed ^ mixed >> 31) % bound;
 }
 
-/* Sums modulo q would hide an entry that isn't below q, so it is refused here as it is by Receive. */
+/* ---- The field ---- */
+
+/* At 4 and 8 an entry is a polynomial in t: its bits are the coefficients, the lowest bit the constant. */
+static bool has_polynomials(unsigned q)
+{
+    return q == 4 || q == 8;
+}
+
+/* The sum of two entries: bit by bit at 4 and 8, and modulo the other sizes, which are primes. */
+static unsigned sum(unsigned q, unsigned a, unsigned b)
+{
+    return has_polynomials(q) ? a ^ b : (a + b) % q;
+}
+
+/* The product of two entries, at 4 reduced by t^2 + t + 1, and at 8 by t^3 + t + 1. */
+static unsigned product(unsigned q, unsigned a, unsigned b)
+{
+    const unsigned divisor = q == 4 ? 7 : 11; /* 111 and 1011 in bits */
+    unsigned result = 0;
+    if (!has_polynomials(q))
+        return a * b % q;
+    for (; b > 0; b >>= 1) {
+        if (b & 1)
+            result ^= a;
+        a <<= 1; /* times t */
+        if (a >= q)
+            a ^= divisor;
+    }
+    return result;
+}
+
+/* ---- Mixtures ---- */
+
+/* There is no arithmetic with an entry of q or more, so it is refused here as it is by Receive. */
 static void accept_rows(const message *heard)
 {
     if (heard->row_count > MAX_ROWS)
@@ -33,11 +66,12 @@ static void accept_rows(const message *heard)
 
 static void mix(const message *heard, const uint8_t *factors, uint8_t *mixture)
 {
+    const unsigned q = (unsigned)heard->q;
     for (uint64_t column = 0; column < heard->n; column++) {
-        uint64_t sum = 0;
+        unsigned mixed = 0;
         for (uint64_t row = 0; row < heard->row_count; row++)
-            sum += (uint64_t)factors[row] * heard->rows[row * heard->n + column];
-        mixture[column] = (uint8_t)(sum % heard->q);
+            mixed = sum(q, mixed, product(q, factors[row], heard->rows[row * heard->n + column]));
+        mixture[column] = (uint8_t)mixed;
     }
 }
 

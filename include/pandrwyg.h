@@ -1,9 +1,13 @@
 /*
  * Pandrwyg: spaces of rows over a small field as numbers, and back. Link with libpandrwyg.a.
  *
- * A setting is q (the field size: 2, 3, 5 or 7), n (the row length: 1 to 16) and k (the dimension: 0 to n); N is the number
- * of k-dimensional spaces, and a setting is accepted when N is at most 2^64 - 1. A matrix is k*n bytes, row by row from the
- * top, one entry a byte, each below q. Numbering 1 is the extended one, numbering 2 is Ferrers.
+ * A setting is q (the field size: 2, 3, 4, 5, 7 or 8), n (the row length: 1 to 16) and k (the dimension: 0 to n); N is the
+ * number of k-dimensional spaces, and a setting is accepted when N is at most 2^64 - 1. A matrix is k*n bytes, row by row
+ * from the top, one entry a byte, each below q. Numbering 1 is the extended one, numbering 2 is Ferrers.
+ *
+ * With q = 2, 3, 5 and 7 the entries are the numbers modulo q. With q = 4 and 8 an entry's bits are the coefficients of a
+ * polynomial in t, the lowest bit the constant: sums are taken bit by bit, and products are reduced by t^2 + t + 1 for 4
+ * and by t^3 + t + 1 for 8.
  *
  * Every call meets every input with a result or the number of a refusal, and always returns. Of the refusals listed at a
  * call the first that applies, in that order, is returned; 0 means done. No call keeps a pointer, allocates, or changes
@@ -27,7 +31,7 @@ extern "C" {
 #define PANDRWYG_FERRERS 2
 
 /* The refusals. */
-#define PANDRWYG_FIELD_SIZE 1 /* q is none of 2, 3, 5, 7 */
+#define PANDRWYG_FIELD_SIZE 1 /* q is none of 2, 3, 4, 5, 7, 8 */
 #define PANDRWYG_SHAPE 2      /* n is outside 1 to 16, or k exceeds n */
 #define PANDRWYG_COUNT 3      /* N exceeds 2^64 - 1 */
 #define PANDRWYG_LENGTH 4     /* a buffer does not have exactly the bytes that it must have */

@@ -20,13 +20,13 @@ typedef struct {
 static const size_t no_lengths[] = {1, MATRIX, 257, 1025, PTRDIFF_MAX, (size_t)PTRDIFF_MAX + 1, SIZE_MAX - 1, SIZE_MAX};
 
 static const request draws[] = {
-    {4, 6, 3, 1, 0, REFUSED_FIELD}, {2, 0, 0, 1, 0, REFUSED_SHAPE}, {2, 16, 8, 1, 0, REFUSED_COUNT},
-    {2, 6, 3, 3, 0, REFUSED_NUMBERING}, {2, 6, 3, 1, 0, REFUSED_LENGTH}, {2, 6, 3, 2, 1395, REFUSED_LENGTH},
+    {6, 6, 3, 1, 0, REFUSED_FIELD}, {2, 0, 0, 1, 0, REFUSED_SHAPE}, {8, 16, 8, 1, 0, REFUSED_COUNT},
+    {4, 6, 3, 3, 0, REFUSED_NUMBERING}, {8, 6, 3, 1, 0, REFUSED_LENGTH}, {2, 6, 3, 2, 1395, REFUSED_LENGTH},
 };
 
 static const request receptions[] = {
-    {4, 6, 3, 1, 3, REFUSED_FIELD}, {2, 0, 0, 1, 3, REFUSED_SHAPE}, {2, 16, 8, 1, 3, REFUSED_COUNT},
-    {2, 6, 3, 0, 3, REFUSED_NUMBERING}, {2, 6, 3, 1, 65, REFUSED_ROW_COUNT}, {2, 6, 3, 2, 3, REFUSED_LENGTH},
+    {6, 6, 3, 1, 3, REFUSED_FIELD}, {2, 0, 0, 1, 3, REFUSED_SHAPE}, {8, 16, 8, 1, 3, REFUSED_COUNT},
+    {4, 6, 3, 0, 3, REFUSED_NUMBERING}, {8, 6, 3, 1, 65, REFUSED_ROW_COUNT}, {2, 6, 3, 2, 3, REFUSED_LENGTH},
 };
 
 static void draw_null_group(void)
@@ -71,7 +71,7 @@ typedef struct {
 
 static uint8_t batch_matrices[MATRIX], batch_answers[1];
 
-/* A batch of the request's index, which has the lengths that 2,6,3 needs. */
+/* A batch of the request's index, which has the lengths that n = 6 and k = 3 need. */
 static batch batch_of(const request *r)
 {
     return (batch){&r->last, 1, batch_matrices, sizeof batch_matrices, batch_answers, sizeof batch_answers};
@@ -159,7 +159,7 @@ static void batch_empty_group(void)
     check_group_begin("Draw a batch with empty buffers");
     check(pandrwyg_draw_batch(2, 6, 3, 1, NULL, 0, NULL, 0, NULL, 0) == 0, "nothing is asked, all null");
     check(pandrwyg_draw_batch(2, 6, 3, 2, indexes, 0, batch_matrices, 0, answers, 0) == 0, "nothing is asked");
-    check(pandrwyg_draw_batch(4, 6, 3, 1, NULL, 0, NULL, 0, NULL, 0) == REFUSED_FIELD, "nothing is asked of no field");
+    check(pandrwyg_draw_batch(6, 6, 3, 1, NULL, 0, NULL, 0, NULL, 0) == REFUSED_FIELD, "nothing is asked of no field");
     check(pandrwyg_draw_batch(2, 6, 0, 1, indexes, 2, NULL, 0, answers, 2) == 0, "the empty matrix to null");
     check(answers[0] == 0 && answers[1] == REFUSED_INDEX, "no second empty matrix");
     batch no_indexes = batch_of(&right), no_matrices = no_indexes, no_answers = no_indexes;

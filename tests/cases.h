@@ -1,6 +1,6 @@
 /*
- * What the test programs share: a fixed-seed xorshift generator, the accepted settings, their sorted listings, matrices
- * written as text, the papers' figures, and lent buffers with a known filling.
+ * What the test programs share: a fixed-seed xorshift generator, the accepted settings, numbers that are no field
+ * sizes, sorted listings, matrices written as text, the papers' figures, and lent buffers with a known filling.
  */
 #ifndef CASES_H
 #define CASES_H
@@ -16,7 +16,7 @@
 #define COUNT_OF(array) (sizeof(array) / sizeof *(array))
 
 /* A byte that no entry, count or dimension of an accepted call has. */
-enum { FILLING = 0xA5, MARGIN = 32, ROWS_LIMIT = MAX_ROWS * MAX_LENGTH, SETTING_LIMIT = 1088 };
+enum { FILLING = 0xA5, MARGIN = 32, ROWS_LIMIT = MAX_ROWS * MAX_LENGTH };
 
 /* ---- Random numbers ---- */
 
@@ -56,6 +56,9 @@ static inline void random_entries(uint64_t q, uint8_t *entries, size_t length)
 
 /* ---- Settings ---- */
 
+/* How many settings the accepted ones are taken from, and how many they are. */
+enum { SETTING_LIMIT = FIELD_COUNT * MAX_LENGTH * (MAX_LENGTH + 1), ACCEPTED_SETTINGS = 669 };
+
 typedef struct {
     uint64_t q, n, k, count;
 } setting;
@@ -73,6 +76,12 @@ static inline size_t accepted_settings(setting *list, uint64_t limit)
 }
 
 static const uint64_t numberings[] = {EXTENDED, FERRERS};
+
+/* Numbers that are no field size: small ones, those that a narrower number would cut to a field size, and the last. */
+static const uint64_t wrong_sizes[] = {
+    0, 1, 6, 9, 10, 16, 255, 256, 256 + 2, 256 + 4, 256 + 7, 65536 + 3, (UINT64_C(1) << 32) + 5,
+    (UINT64_C(1) << 32) + 8, (UINT64_C(1) << 63) + 2, UINT64_MAX,
+};
 
 /* All accepted settings. */
 static setting settings[SETTING_LIMIT];
@@ -102,6 +111,27 @@ static inline void every_shape(uint64_t q, void (*call)(uint64_t q, uint64_t n, 
     for (uint64_t n = 0; n <= 18; n++)
         for (uint64_t k = 0; k <= 18; k++)
             call(q, n, k);
+}
+
+/* How many answers a test has tallied by refusal. */
+static inline uint64_t answered(const uint64_t refusals[REFUSAL_LIMIT])
+{
+    uint64_t all = 0;
+    for (unsigned refusal = 0; refusal < REFUSAL_LIMIT; refusal++)
+        all += refusals[refusal];
+    return all;
+}
+
+/* Calls with every shape of every field size, which is never refused 1, and of every wrong size, which always is. */
+static inline void every_size(void (*call)(uint64_t q, uint64_t n, uint64_t k), const uint64_t refusals[REFUSAL_LIMIT])
+{
+    for (unsigned place = 0; place < FIELD_COUNT; place++)
+        every_shape(second_field_sizes[place], call);
+    check(refusals[REFUSED_FIELD] == 0, "a field size is refused 1");
+    uint64_t of_fields = answered(refusals);
+    for (size_t place = 0; place < COUNT_OF(wrong_sizes); place++)
+        every_shape(wrong_sizes[place], call);
+    check(refusals[REFUSED_FIELD] == answered(refusals) - of_fields, "a wrong size isn't refused 1");
 }
 
 #define SETTING_FORMAT "%" PRIu64 ",%" PRIu64 ",%" PRIu64
@@ -147,7 +177,7 @@ static inline uint8_t *sorted_listing(const setting *s, uint64_t numbering)
 typedef void figure_comparison(uint64_t q, uint64_t n, uint64_t k, const char *rows, uint64_t extended,
                                uint64_t ferrers);
 
-/* The matrices of document 01's examples of Draw, Number and Convert, and of document 001's Example 1. */
+/* The matrices of document 01's examples of Draw, Number and Convert, of document 001's Example 1, and our own. */
 static inline void compare_figures(figure_comparison *compare)
 {
     static const struct {
@@ -159,6 +189,8 @@ static inline void compare_figures(figure_comparison *compare)
         {2, 3, 1, "100", 0, 0}, {2, 3, 1, "110", 1, 1}, {2, 3, 1, "010", 2, 4}, {2, 3, 1, "101", 3, 2},
         {2, 3, 1, "111", 4, 3}, {2, 3, 1, "011", 5, 5}, {2, 3, 1, "001", 6, 6}, {2, 3, 0, "", 0, 0},
         {3, 2, 1, "12", 2, 2}, {2, 3, 2, "101/011", 3, 3}, {2, 7, 3, "1000110/0010101/0001011", 5062, 6620},
+        /* 3 * 5 + 2 and 3 * 4 + 2; 7 * 9 + 5 and 7 * 8 + 5; the last. */
+        {4, 3, 1, "123", 17, 14}, {8, 3, 1, "157", 68, 61}, {8, 3, 1, "001", 72, 72},
     };
     for (size_t place = 0; place < COUNT_OF(figures); place++)
         compare(figures[place].q, figures[place].n, figures[place].k, figures[place].rows, figures[place].extended,
@@ -188,6 +220,7 @@ static inline void compare_orders(order_comparison *compare)
         {2, 7, 3, "1000000/0000100/0000010", "0100010/0010000/0000001"},
         /* At equal diagrams the smaller tableau first: right column first, top entry first. */
         {3, 4, 2, "1020/0120", "1000/0101"}, {3, 4, 2, "1002/0120", "1022/0100"}, {3, 4, 2, "1000/0110", "1010/0100"},
+        {4, 4, 2, "1002/0130", "1023/0100"}, {8, 4, 2, "1006/0177", "1077/0100"},
     };
     compare(2, 6, 3, EXTENDED, y, x);
     compare(2, 6, 3, EXTENDED, x, z);

@@ -119,8 +119,7 @@ static void refusals_group(void)
     static const unsigned given[] = {ACCEPTED, REFUSED_FIELD, REFUSED_SHAPE, REFUSED_COUNT, REFUSED_INDEX,
                                      REFUSED_NUMBERING};
     check_group_begin("refusals");
-    for (uint64_t q = 0; q <= 9; q++)
-        every_shape(q, compare_shape);
+    every_size(compare_shape, refusals);
     for (size_t place = 0; place < COUNT_OF(given); place++)
         check(refusals[given[place]] != 0, "%u never comes", given[place]);
     check_group_end();

@@ -79,12 +79,14 @@ for refusal in $(sed -n 's/^    [A-Z_]* = \([0-9]*\),.*/\1/p' tests/refusals.h);
     same "docs/C.md has refusal $refusal" "$(grep -c "^| $refusal |" docs/C.md)" 1
 done
 
-# ---- Document 01's figures ----
+# ---- Figures of document 01, and rows of order 7's fields ----
 
 same 'Example 4 drawn' "$("$programs/pack" 928 2 6 3)" "$(message 2,6,3 011001 000100 000011)"
 same 'Example 4 received' "$(message 2,6,3 011001 000100 000011 | cabinet)" '0: rows: 3; dimensions: 3 of 3; record: 928'
 same 'the last of 2,6,3' "$("$programs/pack" 1394 2 6 3)" "$(message 2,6,3 000100 000010 000001)"
 same 'row 21 of 3,2,1' "$(message 3,2,1 21 | cabinet)" '0: rows: 1; dimensions: 1 of 1; record: 2'
+same 'row 23 of 4,2,1' "$(message 4,2,1 23 | cabinet)" '0: rows: 1; dimensions: 1 of 1; record: 2'
+same 'row 25 of 8,2,1' "$(message 8,2,1 25 | cabinet)" '0: rows: 1; dimensions: 1 of 1; record: 7'
 same 'three rows of 2,3,2' "$(message 2,3,2 110 011 101 | cabinet)" '0: rows: 3; dimensions: 2 of 2; record: 3'
 same 'one row of 2,3,2' "$(message 2,3,2 110 | cabinet)" '8: rows: 1; dimensions: 1 of 2; missing: 1'
 same 'a third dimension' "$(message 2,3,2 100 010 001 | cabinet)" \
@@ -94,13 +96,16 @@ round_trip 0 2 3 0
 round_trip 928 2 6 3
 round_trip 1000000007 2 16 10
 round_trip 9999999999 3 12 5
+round_trip 9999999999 4 10 4
 round_trip 9999999999 5 10 4
 round_trip 9999999999 7 9 4
+round_trip 9999999999 8 8 3
+round_trip 9999999999999999999 8 10 3
 
 # ---- Refusals, by the library's number and document 01's words ----
 
 shape='n is outside 1 to 16 or k exceeds n'
-same 'q = 4' "$(answer "$programs/pack" 0 4 6 3)" '1: pack: refused 1: q is none of 2, 3, 5 and 7'
+same 'q = 6' "$(answer "$programs/pack" 0 6 6 3)" '1: pack: refused 1: q is none of 2, 3, 4, 5, 7 and 8'
 same 'n = 17' "$(answer "$programs/pack" 0 2 17 3)" "2: pack: refused 2: $shape"
 same 'k above n' "$(answer "$programs/pack" 0 2 3 4)" "2: pack: refused 2: $shape"
 same '2,16,7' "$(answer "$programs/pack" 0 2 16 7)" '3: pack: refused 3: the number of spaces exceeds 2^64 - 1'

@@ -30,7 +30,7 @@ typedef struct {
     uint32_t refusal, raised, idle;
 } harness_step;
 
-/* An entry of the table of counts; 0 for a place of 1156 or more. */
+/* An entry of the table of counts; 0 for a place of 1734 or more. */
 uint64_t harness_table_entry(uint64_t place);
 
 harness_answer harness_count(uint64_t q, uint64_t n, uint64_t k);

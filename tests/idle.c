@@ -277,11 +277,10 @@ static void compare_unreachable(const harness_receiver *receiver)
 /* One of the four numbers at values that it never has. */
 static void forge_numbers(const harness_receiver *receiver)
 {
-    const uint64_t sizes[] = {0, 1, 6, 9, 256 + receiver->q, UINT64_MAX};
     const uint64_t above[] = {receiver->n + 1, MAX_LENGTH + 1, 256 + receiver->n, UINT64_MAX};
-    for (size_t place = 0; place < COUNT_OF(sizes); place++) {
+    for (size_t place = 0; place < COUNT_OF(wrong_sizes); place++) {
         harness_receiver q = *receiver;
-        q.q = sizes[place];
+        q.q = wrong_sizes[place];
         compare_unreachable(&q);
     }
     for (size_t place = 0; place < COUNT_OF(above); place++) {

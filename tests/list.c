@@ -184,12 +184,15 @@ static void figures_group(void)
         {"2,3,1\n", "extended,ferrers,rows\n0,0,100\n1,1,110\n2,4,010\n3,2,101\n4,3,111\n5,5,011\n6,6,001\n"},
         {"2,3,0\n", "extended,ferrers,rows\n0,0,\n"},
         {"3,2,2\n", "extended,ferrers,rows\n0,0,10/01\n"},
+        {"4,2,1\n", "extended,ferrers,rows\n0,0,10\n1,1,11\n2,2,12\n3,3,13\n4,4,01\n"},
+        {"8,2,1\n", "extended,ferrers,rows\n0,0,10\n1,1,11\n2,2,12\n3,3,13\n4,4,14\n5,5,15\n6,6,16\n7,7,17\n8,8,01\n"},
         {"2,16,6\n", "refused,12\n"}, {"2,16,7\n", "refused,3\n"},
-        {"4,3,1\n", "refused,1\n"}, {"2,17,1\n", "refused,2\n"},
-        {"4,17,18\n", "refused,1\n"}, {"0,0,0\n", "refused,1\n"},
+        {"4,6,2\n", "refused,12\n"}, {"8,16,1\n", "refused,12\n"}, {"8,16,2\n", "refused,3\n"},
+        {"6,3,1\n", "refused,1\n"}, {"2,17,1\n", "refused,2\n"},
+        {"6,17,18\n", "refused,1\n"}, {"0,0,0\n", "refused,1\n"},
         {"2,0,0\n", "refused,2\n"}, {"2,3,4\n", "refused,2\n"},
         {"7,16,8\n", "refused,3\n"}, {"999,999,999\n", "refused,1\n"}, {"2,999,999\n", "refused,2\n"},
-        {"2,3,1", "refused,11\n"}, {"4,17,18", "refused,11\n"}, {"2,16,7\n\n", "refused,11\n"},
+        {"2,3,1", "refused,11\n"}, {"6,17,18", "refused,11\n"}, {"2,16,7\n\n", "refused,11\n"},
     };
     check_group_begin("document 01's figures");
     for (unsigned place = 0; place < COUNT_OF(figures); place++)
@@ -205,6 +208,18 @@ static void settings_group(uint64_t q)
     check_group_end();
 }
 
+/* A wrong field size is refused 1; one of four digits or more makes no line. */
+static void wrong_sizes_group(void)
+{
+    check_group_begin("wrong field sizes");
+    for (size_t place = 0; place < COUNT_OF(wrong_sizes); place++) {
+        char text[64];
+        size_t length = write_setting(wrong_sizes[place], 3, 1, text);
+        compare_literal(text, length, wrong_sizes[place] < 1000 ? "refused,1\n" : "refused,11\n");
+    }
+    check_group_end();
+}
+
 /*
  * How many lines are written at the counts nearest to 65,536; none equals it. The listing has a line more, the header.
  * What stands in the lines is compared with every setting.
@@ -213,7 +228,7 @@ static void limit_group(void)
 {
     static const setting nearest[] = {
         {2, 9, 2, 43435}, {2, 9, 7, 43435}, {2, 16, 1, 65535}, {2, 16, 15, 65535},
-        {3, 11, 1, 88573}, {3, 11, 10, 88573}, {2, 8, 3, 97155}, {2, 8, 5, 97155},
+        {4, 9, 1, 87381}, {4, 9, 8, 87381}, {3, 11, 1, 88573}, {3, 11, 10, 88573},
     };
     check_group_begin("listings of about 65,536 lines");
     for (unsigned place = 0; place < COUNT_OF(nearest); place++) {
@@ -332,7 +347,7 @@ static void random_group(void)
     for (unsigned round = 0; round < RANDOM_ROUNDS; round++) {
         size_t length = random_below(16);
         if (round % 2 == 0)
-            length = write_setting(2 + random_below(2), 1 + random_below(6), random_below(5), (char *)input);
+            length = write_setting(2 + random_below(3), 1 + random_below(6), random_below(5), (char *)input);
         for (size_t place = 0; place < length; place++)
             if (round % 2 == 1 || random_below(6) == 0)
                 input[place] = (uint8_t)bytes[random_below(sizeof bytes - 1)];
@@ -429,7 +444,7 @@ static void failing_output(const char *text, int out, const char *what)
 /* Output that is closed from the start, or has no room. */
 static void failing_output_group(void)
 {
-    static const char *const lines[] = {line, "2,16,15\n", "4,3,1\n"};
+    static const char *const lines[] = {line, "2,16,15\n", "6,3,1\n"};
     int full = open("/dev/full", O_WRONLY | O_CLOEXEC);
     check_group_begin("output that fails");
     for (unsigned place = 0; place < COUNT_OF(lines); place++) {
@@ -482,6 +497,7 @@ int main(int argument_count, char **arguments)
     failing_output_group();
     for (unsigned place = 0; place < FIELD_COUNT; place++)
         settings_group(second_field_sizes[place]);
+    wrong_sizes_group();
     limit_group();
     closed_output_group();
     return check_summary("list");

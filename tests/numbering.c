@@ -296,16 +296,23 @@ static const struct {
     {3, 4, 2, "2001/0101", REFUSED_UNREDUCED}, /* a pivot that isn't 1 */
     {3, 4, 2, "1001/0201", REFUSED_UNREDUCED},
     {7, 2, 1, "06", REFUSED_UNREDUCED},
+    {4, 3, 2, "230/001", REFUSED_UNREDUCED},
+    {8, 3, 2, "107/055", REFUSED_UNREDUCED},
     {2, 6, 3, "211001/000100/000011", REFUSED_ENTRY}, /* oversized entries in good and bad places */
     {2, 6, 3, "011001/000100/000012", REFUSED_ENTRY},
     {2, 6, 3, "011002/000100/000011", REFUSED_ENTRY},
     {7, 2, 1, "17", REFUSED_ENTRY},
+    {4, 3, 2, "140/001", REFUSED_ENTRY},
+    {8, 3, 2, "108/015", REFUSED_ENTRY},
     {2, 2, 2, "11/01", REFUSED_UNREDUCED}, /* document 01 */
     {2, 2, 2, "11/02", REFUSED_ENTRY},
     {2, 6, 3, "000000/000000/000002", REFUSED_ENTRY}, /* oversized after the form is broken */
     {2, 6, 3, "000100/011001/000021", REFUSED_ENTRY},
     {3, 4, 2, "2001/0103", REFUSED_ENTRY},
     {5, 3, 3, "444/444/445", REFUSED_ENTRY},
+    {8, 3, 3, "777/777/778", REFUSED_ENTRY},
+    {4, 3, 2, "130/001", ACCEPTED}, /* undamaged, for comparison */
+    {8, 3, 2, "107/015", ACCEPTED},
 };
 
 static void damage_figures_group(void)
@@ -340,8 +347,8 @@ static void compare_all_matrices(uint64_t q, uint64_t n, uint64_t k)
 static void all_matrices_group(void)
 {
     static const setting shapes[] = {
-        {2, 1, 1, 0}, {2, 4, 1, 0}, {2, 3, 2, 0}, {2, 4, 2, 0}, {2, 3, 3, 0}, {3, 3, 2, 0}, {3, 2, 2, 0}, {5, 2, 2, 0},
-        {5, 4, 1, 0}, {7, 2, 2, 0}, {7, 3, 1, 0},
+        {2, 1, 1, 0}, {2, 4, 1, 0}, {2, 3, 2, 0}, {2, 4, 2, 0}, {2, 3, 3, 0}, {3, 3, 2, 0}, {3, 2, 2, 0}, {4, 2, 2, 0},
+        {4, 4, 1, 0}, {4, 3, 2, 0}, {5, 2, 2, 0}, {5, 4, 1, 0}, {7, 2, 2, 0}, {7, 3, 1, 0}, {8, 2, 2, 0}, {8, 3, 1, 0},
     };
     check_group_begin("every matrix of small shapes, entries up to q");
     for (size_t place = 0; place < COUNT_OF(shapes); place++)
@@ -529,12 +536,34 @@ static void compare_faults(uint64_t q, uint64_t n, uint64_t k, uint64_t numberin
 
 static void faults_group(void)
 {
-    static const uint64_t q[] = {0, 2, 4, 7, 258}, n[] = {0, 6, 16, 17, 262}, k[] = {0, 3, 8, 16, 17, 259};
+    static const uint64_t q[] = {0, 2, 6, 8, 258}, n[] = {0, 6, 16, 17, 262}, k[] = {0, 3, 8, 16, 17, 259};
     static const uint64_t numbering[] = {0, 1, 2, 3, 257}, index[] = {0, 1, UINT64_MAX};
     check_group_begin("several faults at once");
     for (unsigned code = 0; code < 5 * 5 * 6 * 5 * 2 * 3; code++)
         compare_faults(q[code % 5], n[code / 5 % 5], k[code / 25 % 6], numbering[code / 150 % 5],
                        code / 750 % 2, index[code / 1500]);
+    check_group_end();
+}
+
+/* Draw and Number, whatever else is right or wrong; tests/convert.c has Convert. */
+static void compare_wrong_size(uint64_t q, uint64_t n, uint64_t k)
+{
+    static const uint8_t matrix[MAX_LENGTH * MAX_LENGTH] = {1};
+    size_t length = k * n < sizeof matrix ? (size_t)(k * n) : sizeof matrix;
+    for (uint64_t numbering = 0; numbering <= 3; numbering++) {
+        harness_answer answer = harness_number(q, n, k, numbering, matrix, length);
+        check(answer.refusal == REFUSED_FIELD && answer.value == 0,
+              "number " SETTING_FORMAT " in %" PRIu64 ": refusal %u", q, n, k, numbering, answer.refusal);
+        check(refused_draw(q, n, k, numbering, 0, length) == REFUSED_FIELD,
+              "draw " SETTING_FORMAT " in %" PRIu64, q, n, k, numbering);
+    }
+}
+
+static void wrong_sizes_group(void)
+{
+    check_group_begin("wrong field sizes");
+    for (size_t place = 0; place < COUNT_OF(wrong_sizes); place++)
+        every_shape(wrong_sizes[place], compare_wrong_size);
     check_group_end();
 }
 
@@ -579,6 +608,7 @@ static void damage_groups(void)
     numberings_group();
     edges_group();
     faults_group();
+    wrong_sizes_group();
     fillings_group();
 }
 

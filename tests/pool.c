@@ -326,6 +326,11 @@ static void figures_group(void)
     compare_figure((setting){3, 2, 1, 0}, "11", "12", "10/01", "");
     compare_figure((setting){5, 3, 2, 0}, "104/014", "100/010", "100/010/001", "140");
     compare_figure((setting){7, 4, 2, 0}, "1000/0100", "1010/0101", "1000/0100/0010/0001", "");
+    compare_figure((setting){4, 2, 1, 0}, "12", "23", "12", "12");
+    compare_figure((setting){8, 2, 1, 0}, "14", "23", "14", "14");
+    /* 130 and 150 are in the first spaces, as 2 + 3 * 3 = 0 in four and 2 + 5 * 4 = 0 in eight. */
+    compare_figure((setting){4, 3, 2, 0}, "102/013", "100/010", "100/010/001", "130");
+    compare_figure((setting){8, 3, 2, 0}, "102/014", "100/010", "100/010/001", "150");
     check_group_end();
 }
 
@@ -541,6 +546,22 @@ static void forged_numbers_group(void)
     end_any_group();
 }
 
+/* A q that is no field size, in one of the receivers or in both: 14, of whatever rows. */
+static void forged_sizes_group(void)
+{
+    check_group_begin("wrong field sizes");
+    begin_any_group();
+    for (size_t number = 0; number < setting_count; number += thinning)
+        for (size_t place = 0; place < COUNT_OF(wrong_sizes); place++) {
+            const setting *s = &settings[number];
+            harness_receiver good = receiver_of(s->q, s->n, s->k, random_below(s->n + 1)), wrong = good;
+            wrong.q = wrong_sizes[place];
+            compare_any(&wrong, &good);
+        }
+    check(reachable == 0, "%" PRIu64 " are taken for reachable", reachable);
+    check_group_end();
+}
+
 /* ---- Receivers that differ ---- */
 
 /* Two good receivers of other settings: 16, with buffers of the one, of the other, and wrong ones. */
@@ -695,20 +716,26 @@ static void every_pair_groups(void)
     every_pair_group(2, 4, 2, 67);
     every_pair_group(3, 2, 1, 6);
     every_pair_group(3, 3, 2, 28);
+    every_pair_group(4, 2, 1, 7);
+    every_pair_group(4, 3, 2, 44);
     every_pair_group(5, 2, 1, 8);
     every_pair_group(7, 2, 2, 10);
+    every_pair_group(8, 2, 1, 11);
 }
 
 static void damage_groups(void)
 {
     single_byte_group(2, 1, 1, 1);
     single_byte_group(3, 4, 2, 1);
+    single_byte_group(4, 4, 2, 2);
     single_byte_group(5, 6, 3, 4);
     single_byte_group(7, 16, 1, 2);
+    single_byte_group(8, 3, 1, 2);
     single_byte_group(2, 16, 6, 0);
     single_byte_group(2, 16, 16, 16);
     damaged_rows_group();
     forged_numbers_group();
+    forged_sizes_group();
 }
 
 static void differing_groups(void)

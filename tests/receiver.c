@@ -7,7 +7,7 @@
 #include "check.h"
 #include "receivers.h"
 
-enum { SETTINGS = 468, SCRIPTS = 40, CALLS = 60, TRIPS = 20, FORGERIES = 6, DAMAGES = 100, ROW_LIMIT = MAX_LENGTH + 1 };
+enum { SCRIPTS = 40, CALLS = 60, TRIPS = 20, FORGERIES = 6, DAMAGES = 100, ROW_LIMIT = MAX_LENGTH + 1 };
 
 /* ---- Both receivers ---- */
 
@@ -216,6 +216,18 @@ static void figures_group(void)
     check_group_end();
 }
 
+/* Twice 12 is 23 in four, and twice 14 is 23 in eight; 20 is a multiple of neither. */
+static void polynomials_group(void)
+{
+    check_group_begin("rows of order 7's fields, row by row");
+    compare_figure((setting){4, 2, 1, 0}, "12/23/00/31", "1020", ACCEPTED, 2, (second_told){0, 2});
+    compare_figure((setting){4, 2, 1, 0}, "12/20", "11", REFUSED_TOO_MANY, 0, (second_told){2, 3});
+    compare_figure((setting){8, 2, 1, 0}, "25/00/17", "120", ACCEPTED, 7, (second_told){0, 2});
+    compare_figure((setting){8, 2, 1, 0}, "14/23", "10", ACCEPTED, 4, (second_told){0, 2});
+    compare_figure((setting){8, 2, 1, 0}, "14/20", "11", REFUSED_TOO_MANY, 0, (second_told){2, 3});
+    check_group_end();
+}
+
 /* ---- Receivers that any caller may hand in ---- */
 
 static void compare_unreachable(const harness_receiver *receiver, const uint8_t *row, size_t length)
@@ -343,6 +355,26 @@ static void forged_numbers_group(void)
     end_any_group();
 }
 
+/* A q that is no field size is refused 14, also where the receiver holds nothing but zeros and ones. */
+static void forged_sizes_group(void)
+{
+    uint8_t row[MAX_LENGTH] = {1};
+    check_group_begin("wrong field sizes in a receiver");
+    for (size_t number = 0; number < setting_count; number += thinning)
+        for (size_t place = 0; place < COUNT_OF(wrong_sizes); place++) {
+            const setting *s = &settings[number];
+            harness_receiver empty = harness_start(s->q, s->n, s->k).receiver, unit = empty;
+            harness_receiver any = receiver_of(s->q, s->n, s->k, random_below(s->n + 1));
+            unit.entries[0] = 1;
+            unit.dimension = 1;
+            empty.q = unit.q = any.q = wrong_sizes[place];
+            compare_unreachable(&empty, row, (size_t)s->n);
+            compare_unreachable(&unit, row, (size_t)s->n);
+            compare_unreachable(&any, row, (size_t)s->n);
+        }
+    check_group_end();
+}
+
 /* A dimension above n is refused 14, whatever the entries are. */
 static void forged_dimensions_group(void)
 {
@@ -374,11 +406,27 @@ static void starts_group(void)
     check_group_end();
 }
 
+static void start_wrong_size(uint64_t q, uint64_t n, uint64_t k)
+{
+    static const harness_receiver zeros;
+    harness_step step = harness_start(q, n, k);
+    check(step.refusal == REFUSED_FIELD && same_receiver(&step.receiver, &zeros), SETTING_FORMAT ": refusal %u", q, n,
+          k, step.refusal);
+}
+
+static void wrong_sizes_group(void)
+{
+    check_group_begin("starts with wrong field sizes");
+    for (size_t place = 0; place < COUNT_OF(wrong_sizes); place++)
+        every_shape(wrong_sizes[place], start_wrong_size);
+    check_group_end();
+}
+
 static const struct {
     uint64_t q, n, k;
     uint32_t refusal;
 } refused_starts[] = {
-    {4, 3, 1, REFUSED_FIELD}, {258, 3, 1, REFUSED_FIELD}, {UINT64_MAX, 17, 18, REFUSED_FIELD},
+    {6, 3, 1, REFUSED_FIELD}, {258, 3, 1, REFUSED_FIELD}, {UINT64_MAX, 17, 18, REFUSED_FIELD},
     {2, 0, 0, REFUSED_SHAPE}, {2, 17, 1, REFUSED_SHAPE}, {7, 259, 1, REFUSED_SHAPE}, {2, 3, 4, REFUSED_SHAPE},
     {2, 16, UINT64_MAX, REFUSED_SHAPE}, {2, 16, 7, REFUSED_COUNT}, {7, 16, 8, REFUSED_COUNT},
 };
@@ -409,7 +457,7 @@ static void refused_starts_group(void)
 static void settings_group(void)
 {
     check_group_begin("number of accepted settings");
-    check(setting_count == SETTINGS, "%zu settings instead of %d", setting_count, SETTINGS);
+    check(setting_count == ACCEPTED_SETTINGS, "%zu settings instead of %d", setting_count, ACCEPTED_SETTINGS);
     check_group_end();
 }
 
@@ -419,8 +467,10 @@ static void damage_groups(void)
     single_byte_group(2, 1, 1, 1);
     single_byte_group(2, 4, 2, 2);
     single_byte_group(3, 4, 2, 1);
+    single_byte_group(4, 4, 2, 2);
     single_byte_group(5, 3, 1, 3);
     single_byte_group(5, 6, 3, 4);
+    single_byte_group(8, 3, 1, 2);
     single_byte_group(7, 2, 1, 1);
     single_byte_group(7, 16, 1, 2);
     single_byte_group(3, 16, 3, 8);
@@ -430,10 +480,13 @@ static void damage_groups(void)
     every_filling_group(2, 1, 0, 4);
     every_filling_group(2, 2, 1, 6);
     every_filling_group(3, 2, 1, 5);
+    every_filling_group(4, 2, 1, 5);
     every_filling_group(7, 2, 2, 4);
+    every_filling_group(8, 2, 1, 4);
     every_filling_group(2, 3, 2, 9);
     damaged_rows_group();
     forged_numbers_group();
+    forged_sizes_group();
     forged_dimensions_group();
 }
 
@@ -447,7 +500,9 @@ int main(int argument_count, char **arguments)
     round_trip_group(EXTENDED);
     round_trip_group(FERRERS);
     figures_group();
+    polynomials_group();
     starts_group();
+    wrong_sizes_group();
     refused_starts_group();
     damage_groups();
     return check_summary("receiver");

@@ -155,10 +155,10 @@ static inline void damage_rows(harness_receiver *receiver)
 
 /* Numbers in and out of range, those that would be cut to a number in range, and those whose products wrap to 0. */
 static const uint64_t forged[] = {
-    0, 1, 2, 3, 4, 5, 6, 7, 8, 9, 10, 11, 12, 13, 14, 15, 16, 17, 18, 32, 127, 128, 255, 256, 257, 258, 259, 261, 263,
-    272, 65536, 65538, UINT64_C(1) << 32, (UINT64_C(1) << 32) + 1, (UINT64_C(1) << 32) + 2, (UINT64_C(1) << 32) + 3,
-    UINT64_C(1) << 60, (UINT64_C(1) << 60) + 1, UINT64_C(1) << 61, UINT64_C(1) << 62, UINT64_C(1) << 63,
-    (UINT64_C(1) << 63) + 2, UINT64_MAX - 15, UINT64_MAX - 1, UINT64_MAX,
+    0, 1, 2, 3, 4, 5, 6, 7, 8, 9, 10, 11, 12, 13, 14, 15, 16, 17, 18, 32, 127, 128, 255, 256, 257, 258, 259, 260, 261,
+    263, 264, 272, 65536, 65538, UINT64_C(1) << 32, (UINT64_C(1) << 32) + 1, (UINT64_C(1) << 32) + 2,
+    (UINT64_C(1) << 32) + 3, UINT64_C(1) << 60, (UINT64_C(1) << 60) + 1, UINT64_C(1) << 61, UINT64_C(1) << 62,
+    UINT64_C(1) << 63, (UINT64_C(1) << 63) + 2, UINT64_MAX - 15, UINT64_MAX - 1, UINT64_MAX,
 };
 
 #endif

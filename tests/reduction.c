@@ -281,7 +281,7 @@ static void every_list_groups(void)
 {
     static const struct {
         uint64_t q, n, most;
-    } lists[] = {{2, 3, 4}, {2, 4, 3}, {3, 3, 2}, {3, 2, 4}, {5, 2, 3}, {7, 2, 2}};
+    } lists[] = {{2, 3, 4}, {2, 4, 3}, {3, 3, 2}, {3, 2, 4}, {4, 3, 2}, {4, 2, 3}, {5, 2, 3}, {7, 2, 2}, {8, 2, 2}};
     for (size_t place = 0; place < COUNT_OF(lists); place++)
         every_list_group(lists[place].q, lists[place].n, lists[place].most);
 }
@@ -372,6 +372,25 @@ static void figures_group(void)
     compare_figure((setting){2, 3, 0, 0}, "010", REFUSED_TOO_MANY, 0, (second_told){1, 2});
     compare_figure((setting){2, 3, 1, 0}, "", REFUSED_TOO_FEW, 0, (second_told){0, 0});
     compare_figure((setting){2, 3, 1, 0}, "001/000/001", ACCEPTED, 6, (second_told){1, 1});
+    check_group_end();
+}
+
+/*
+ * The inverse of 2 is 3 in four and 5 in eight; 3 * 3 = 2 and 5 * 5 = 7. Twice 12 is 23, and twice 14 is 23. In eight
+ * 123 and 130 differ by 013, and 2 * 3 = 6.
+ */
+static void polynomials_group(void)
+{
+    check_group_begin("rows of order 7's fields");
+    compare_reduced(4, 2, "23", "12", (second_told){1, 2});
+    compare_figure((setting){4, 2, 1, 0}, "23", ACCEPTED, 2, (second_told){1, 2});
+    compare_figure((setting){4, 2, 1, 0}, "12/23", ACCEPTED, 2, (second_told){1, 2});
+    compare_figure((setting){4, 2, 1, 0}, "12/20", REFUSED_TOO_MANY, 0, (second_told){2, 3});
+    compare_reduced(8, 2, "25", "17", (second_told){1, 2});
+    compare_figure((setting){8, 2, 1, 0}, "25", ACCEPTED, 7, (second_told){1, 2});
+    compare_figure((setting){8, 2, 1, 0}, "14/23", ACCEPTED, 4, (second_told){1, 2});
+    compare_figure((setting){8, 2, 1, 0}, "14/20", REFUSED_TOO_MANY, 0, (second_told){2, 3});
+    compare_reduced(8, 3, "123/130", "105/013", (second_told){2, 6});
     check_group_end();
 }
 
@@ -494,19 +513,31 @@ static void reduce_entries_group(void)
 /* Several faults at once: the first in document 01's order is told. */
 static void reduce_faults_group(void)
 {
-    static const uint64_t q[] = {0, 1, 2, 4, 7, 8, 258, UINT64_MAX}, n[] = {0, 1, 6, 16, 17, 257, UINT64_MAX};
+    static const uint64_t q[] = {2, 4, 6, 7, 8, 258}, n[] = {0, 1, 6, 16, 17, 257, UINT64_MAX};
     static const uint64_t r[] = {0, 3, 64, 65, UINT64_MAX};
     uint8_t rows[ROWS_LIMIT + 2 * MAX_LENGTH];
     check_group_begin("reduce, several faults at once");
-    for (unsigned code = 0; code < 8 * 7 * 5 * 2 * 2 * 2; code++) {
-        uint64_t length = n[code / 8 % 7], count = r[code / 56 % 5];
-        size_t rows_length = (size_t)(length > 16 || count > 65 ? 18 : length * count) + code / 280 % 2;
+    for (unsigned code = 0; code < 6 * 7 * 5 * 2 * 2 * 2; code++) {
+        uint64_t length = n[code / 6 % 7], count = r[code / 42 % 5];
+        size_t rows_length = (size_t)(length > 16 || count > 65 ? 18 : length * count) + code / 210 % 2;
         size_t out_length = (size_t)(length > 16 ? 36 : length * length);
-        out_length = code / 560 % 2 == 0 ? out_length : out_length == SQUARE ? 255 : out_length + 1;
-        memset(rows, code / 1120 % 2 ? 255 : 1, sizeof rows);
-        compare_reduce_call(q[code % 8], length, count, rows, rows_length, out_length);
+        out_length = code / 420 % 2 == 0 ? out_length : out_length == SQUARE ? 255 : out_length + 1;
+        memset(rows, code / 840 % 2 ? 255 : 1, sizeof rows);
+        compare_reduce_call(q[code % 6], length, count, rows, rows_length, out_length);
     }
     check_group_end();
+}
+
+/* No byte is written, whatever else is right or wrong. */
+static void reduce_wrong_size(uint64_t q, uint64_t n, uint64_t r)
+{
+    static const uint8_t rows[18 * 18] = {1};
+    lent out;
+    size_t square = n <= MAX_LENGTH ? (size_t)(n * n) : SQUARE;
+    memset(&out, FILLING, sizeof out);
+    harness_answer answer = harness_reduce(q, n, r, rows, (size_t)(r * n), out.bytes, square);
+    check(answer.refusal == REFUSED_FIELD && answer.dimension == 0 && answer.vector == 0 && outside_filled(&out, 0),
+          "q = %" PRIu64 ", n = %" PRIu64 ", %" PRIu64 " rows: refusal %u", q, n, r, answer.refusal);
 }
 
 /* ---- Damage to Receive ---- */
@@ -613,7 +644,7 @@ static void receive_entries_group(void)
 
 static void receive_faults_group(void)
 {
-    static const uint64_t q[] = {2, 4, 258}, n[] = {0, 6, 16, 17}, k[] = {0, 3, 6, 8, 17};
+    static const uint64_t q[] = {2, 6, 8}, n[] = {0, 6, 16, 17}, k[] = {0, 3, 6, 8, 17};
     static const uint64_t numbering[] = {0, 1, 2, 3, 258}, r[] = {0, 4, 64, 65, UINT64_MAX};
     uint8_t rows[ROWS_LIMIT + 2 * MAX_LENGTH];
     check_group_begin("receive, several faults at once");
@@ -623,6 +654,26 @@ static void receive_faults_group(void)
         size_t length = (size_t)(s.n > 16 || count > 65 ? 18 : s.n * count) + code / 1500 % 2;
         memset(rows, code / 3000 % 2 ? 255 : 1, sizeof rows);
         compare_receive_call(&s, numbering[code / 60 % 5], count, rows, length, ANSWER + code / 6000 % 2);
+    }
+    check_group_end();
+}
+
+/* In both forms no byte is written, whatever else is right or wrong. */
+static void receive_wrong_size(uint64_t q, uint64_t n, uint64_t k)
+{
+    setting s = {q, n, k, 0};
+    list one = {q, n <= MAX_LENGTH ? n : MAX_LENGTH, k, {1}};
+    for (uint64_t numbering = 0; numbering <= 3; numbering++)
+        check(receives(&s, numbering, &one, REFUSED_FIELD, 0, (second_told){0, 0}),
+              SETTING_FORMAT " in %" PRIu64 " isn't refused 1", q, n, k, numbering);
+}
+
+static void wrong_sizes_group(void)
+{
+    check_group_begin("wrong field sizes");
+    for (size_t place = 0; place < COUNT_OF(wrong_sizes); place++) {
+        every_shape(wrong_sizes[place], reduce_wrong_size);
+        every_shape(wrong_sizes[place], receive_wrong_size);
     }
     check_group_end();
 }
@@ -657,9 +708,11 @@ int main(int argument_count, char **arguments)
     }
     every_list_groups();
     figures_group();
+    polynomials_group();
     ends_group();
     inverses_group();
     reduce_damage_groups();
     receive_damage_groups();
+    wrong_sizes_group();
     return check_summary("reduction");
 }

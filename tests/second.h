@@ -23,8 +23,8 @@
 /* Document 01's two numberings. */
 enum { EXTENDED = 1, FERRERS = 2 };
 
-/* The limits of the settings, the length of the table of counts, and the four field sizes in the table's sequence. */
-enum { MAX_LENGTH = 16, MAX_ROWS = 64, TABLE_LENGTH = 1156, FIELD_COUNT = 4 };
+/* The limits of the settings, the length of the table of counts, and the six field sizes in the table's sequence. */
+enum { MAX_LENGTH = 16, MAX_ROWS = 64, TABLE_LENGTH = 1734, FIELD_COUNT = 6 };
 extern const uint64_t second_field_sizes[FIELD_COUNT];
 
 /* Fills the tables that all other calls read; to be called once before them. */
@@ -34,7 +34,7 @@ void second_init(void);
 uint8_t second_field_add(uint64_t q, uint8_t left, uint8_t right);
 uint8_t second_field_multiply(uint64_t q, uint8_t left, uint8_t right);
 
-/* One of the 1,156 counts, by place; 0 at a count above 2^64 - 1, at k > n, and at a place outside the table. */
+/* One of the 1,734 counts, by place; 0 at a count above 2^64 - 1, at k > n, and at a place outside the table. */
 uint64_t second_table_entry(unsigned place);
 
 /* Count: the number of spaces. Refuses 1, 2, 3. */

@@ -1,12 +1,13 @@
 /*
  * Tables of the second implementation: field arithmetic, powers, and counts by formula (1) on big numbers; and the
- * calls that only read them.
+ * calls that only read them. Of four and eight the sums and products are those of polynomials, and a product is divided
+ * by hand, coefficient by coefficient; all else reads the tables and knows no kinds of fields.
  */
 #include "second_parts.h"
 
 #include <assert.h>
 
-const uint64_t second_field_sizes[FIELD_COUNT] = {2, 3, 5, 7};
+const uint64_t second_field_sizes[FIELD_COUNT] = {2, 3, 4, 5, 7, 8};
 
 second_field second_fields[FIELD_LIMIT + 1];
 uint64_t second_powers[FIELD_LIMIT + 1][SIZE_LIMIT + 1];
@@ -14,15 +15,64 @@ uint64_t second_gaussian[FIELD_LIMIT + 1][MAX_LENGTH + 1][MAX_LENGTH + 1];
 
 /* ---- Fields ---- */
 
+/* The bits of an entry of four or eight, and the powers of t that a product of two such entries has. */
+enum { ENTRY_BITS = 3, PRODUCT_POWERS = 2 * ENTRY_BITS - 1 };
+
+/* What products of polynomials are divided by: coefficients, the constant first, and the degree, 0 at a prime q. */
+typedef struct {
+    unsigned degree, coefficients[ENTRY_BITS + 1];
+} polynomial;
+
+static polynomial divisor_of(unsigned q)
+{
+    switch (q) {
+    case 4: return (polynomial){2, {1, 1, 1}};    /* t^2 + t + 1 */
+    case 8: return (polynomial){3, {1, 1, 0, 1}}; /* t^3 + t + 1 */
+    default: return (polynomial){0, {0}};
+    }
+}
+
+/* The coefficient of a power of t in an entry of four or eight. */
+static unsigned coefficient(unsigned entry, unsigned power)
+{
+    return entry >> power & 1;
+}
+
+/* The remainder of a long division, coefficient by coefficient from the highest; all of them count modulo 2. */
+static unsigned remainder_of(unsigned powers[PRODUCT_POWERS], const polynomial *divisor)
+{
+    unsigned entry = 0;
+    for (unsigned power = PRODUCT_POWERS; power-- > divisor->degree;) {
+        unsigned quotient = powers[power] % 2;
+        for (unsigned place = 0; place <= divisor->degree; place++)
+            powers[power - divisor->degree + place] += quotient * divisor->coefficients[place];
+    }
+    for (unsigned power = 0; power < divisor->degree; power++)
+        entry += powers[power] % 2 << power;
+    return entry;
+}
+
 /* Sum and product define a field; the differences and inverses follow from them. */
 static unsigned field_sum(unsigned q, unsigned left, unsigned right)
 {
-    return (left + right) % q;
+    unsigned sum = 0;
+    if (divisor_of(q).degree == 0)
+        return (left + right) % q;
+    for (unsigned power = 0; power < ENTRY_BITS; power++)
+        sum += (coefficient(left, power) + coefficient(right, power)) % 2 << power;
+    return sum;
 }
 
 static unsigned field_product(unsigned q, unsigned left, unsigned right)
 {
-    return left * right % q;
+    polynomial divisor = divisor_of(q);
+    unsigned powers[PRODUCT_POWERS] = {0};
+    if (divisor.degree == 0)
+        return left * right % q;
+    for (unsigned one = 0; one < ENTRY_BITS; one++)
+        for (unsigned other = 0; other < ENTRY_BITS; other++)
+            powers[one + other] += coefficient(left, one) * coefficient(right, other);
+    return remainder_of(powers, &divisor);
 }
 
 static void fill_pair(unsigned q, unsigned left, unsigned right)
@@ -137,7 +187,10 @@ void second_init(void)
 
 bool second_is_field(uint64_t q)
 {
-    return q == 2 || q == 3 || q == 5 || q == 7;
+    for (unsigned place = 0; place < FIELD_COUNT; place++)
+        if (second_field_sizes[place] == q)
+            return true;
+    return false;
 }
 
 uint64_t second_table_entry(unsigned place)

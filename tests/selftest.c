@@ -1,7 +1,8 @@
 /*
  * Tests the second implementation against itself: counting and searching against the sorted lists of all reduced
  * matrices, formula (1) against the diagrams, the elimination and the common spaces against spans written out in full,
- * the receiver against the counts, and all against the figures of document 001.
+ * the receiver against the counts, the fields against their laws, and all against the figures of document 001 and the
+ * words of order 7.
  */
 #include "cases.h"
 #include "check.h"
@@ -26,6 +27,40 @@ static void field_group(uint64_t q)
         check(field->sum[field->difference[a][b]][b] == a, "differences");
         check(a == 0 || field->product[a][field->inverse[a]] == 1, "inverses");
     }
+    check_group_end();
+}
+
+/* Order 7: the sums of four and eight are bit by bit. The others' are modulo q. */
+static void sums_group(uint64_t q)
+{
+    bool bits = q == 4 || q == 8;
+    check_group_begin("sums of %" PRIu64, q);
+    for (unsigned code = 0; code < q * q; code++) {
+        unsigned a = (unsigned)(code % q), b = (unsigned)(code / q);
+        check(second_field_add(q, (uint8_t)a, (uint8_t)b) == (bits ? a ^ b : (a + b) % q), "%u + %u", a, b);
+    }
+    check_group_end();
+}
+
+/*
+ * Products by hand. With t * t = t + 1 in four, t * t = t^2 and t * t^2 = t + 1 in eight, the field laws settle all
+ * products there; modulo q, or divided by t^3 + t^2 + 1, these are others.
+ */
+static void products_group(void)
+{
+    static const struct {
+        uint64_t q;
+        uint8_t left, right, product;
+    } figures[] = {
+        {2, 1, 1, 1}, {3, 2, 2, 1}, {5, 3, 4, 2}, {7, 3, 5, 1}, {7, 6, 4, 3},
+        {4, 2, 2, 3}, {4, 2, 3, 1}, {4, 3, 3, 2}, /* t * (t + 1) = t^2 + t = 1; (t + 1)^2 = t^2 + 1 = t */
+        {8, 2, 2, 4}, {8, 2, 4, 3}, {8, 4, 4, 6}, /* t^2 * t^2 = t * (t + 1) */
+        {8, 2, 5, 1}, {8, 5, 7, 6},               /* t * (t^2 + 1) = t^3 + t = 1; t^4 + t^3 + t + 1 = t^2 + t */
+    };
+    check_group_begin("products by hand");
+    for (size_t place = 0; place < COUNT_OF(figures); place++)
+        check(second_field_multiply(figures[place].q, figures[place].left, figures[place].right) ==
+              figures[place].product, "figure %zu", place);
     check_group_end();
 }
 
@@ -80,16 +115,25 @@ static void vectors_group(void)
 
 static void count_figures_group(void)
 {
+    static const uint64_t sequence[FIELD_COUNT] = {2, 3, 4, 5, 7, 8};
     uint64_t count;
     check_group_begin("count figures");
-    check(setting_count == 468, "%zu settings are accepted", setting_count);
+    for (unsigned place = 0; place < FIELD_COUNT; place++)
+        check(second_table_entry(place * 289 + 2 * 17 + 1) == sequence[place] + 1, "n = 2, k = 1 of %" PRIu64,
+              sequence[place]);
+    check(setting_count == ACCEPTED_SETTINGS, "%zu settings are accepted", setting_count);
     check(second_count(2, 6, 3, &count) == ACCEPTED && count == 1395, "2,6,3");
     check(second_count(3, 4, 2, &count) == ACCEPTED && count == 130, "3,4,2");
     check(second_count(2, 16, 6, &count) == ACCEPTED, "2,16,6");
     check(second_count(2, 16, 7, &count) == REFUSED_COUNT && count == 0, "2,16,7");
-    check(second_count(4, 0, 1, &count) == REFUSED_FIELD && count == 0, "4,0,1");
+    check(second_count(4, 3, 1, &count) == ACCEPTED && count == 21, "4,3,1");
+    check(second_count(8, 2, 1, &count) == ACCEPTED && count == 9, "8,2,1");
+    check(second_count(6, 0, 1, &count) == REFUSED_FIELD && count == 0, "6,0,1");
     check(second_count(2, 17, 1, &count) == REFUSED_SHAPE && count == 0, "2,17,1");
-    check(second_table_entry(1156) == 0, "place 1156");
+    check(second_table_entry(1734) == 0, "place 1734");
+    for (size_t place = 0; place < COUNT_OF(wrong_sizes); place++)
+        check(second_count(wrong_sizes[place], 3, 1, &count) == REFUSED_FIELD && count == 0, "q = %" PRIu64,
+              wrong_sizes[place]);
     check_group_end();
 }
 
@@ -151,26 +195,38 @@ static void random_group(uint64_t numbering)
 
 /* ---- Elimination against spans ---- */
 
-/* The rows of the span, each as a number in base q, marked one by one. */
+/* Rows, each marked at its number in base q. */
+typedef struct {
+    size_t count;
+    uint8_t known[SPAN_LIMIT][MAX_LENGTH], *marks;
+} row_set;
+
+static void mark_row(uint64_t q, uint64_t n, const uint8_t *row, row_set *set)
+{
+    size_t code = 0;
+    for (uint64_t column = 0; column < n; column++)
+        code = code * q + row[column];
+    if (!set->marks[code])
+        memcpy(set->known[set->count++], row, MAX_LENGTH);
+    set->marks[code] = 1;
+}
+
+/* The rows of the span: each multiple of each row is added to all that are known before it. */
 static void mark_span(uint64_t q, uint64_t n, uint64_t r, const uint8_t *rows, uint8_t *marks)
 {
-    static uint8_t known[SPAN_LIMIT][MAX_LENGTH];
-    size_t count = 1;
-    memset(known[0], 0, MAX_LENGTH);
+    static row_set set;
+    uint8_t sum[MAX_LENGTH] = {0};
+    set.count = 0;
+    set.marks = marks;
     memset(marks, 0, SPAN_LIMIT);
-    marks[0] = 1;
+    mark_row(q, n, sum, &set);
     for (uint64_t row = 0; row < r; row++)
-        for (size_t place = 0; place < count; place++) {
-            uint8_t sum[MAX_LENGTH];
-            size_t code = 0;
-            memcpy(sum, known[place], MAX_LENGTH);
-            add_multiple(q, n, sum, rows + row * n, 1);
-            for (uint64_t column = 0; column < n; column++)
-                code = code * q + sum[column];
-            if (!marks[code])
-                memcpy(known[count++], sum, MAX_LENGTH);
-            marks[code] = 1;
-        }
+        for (size_t place = 0, before = set.count; place < before; place++)
+            for (unsigned factor = 1; factor < q; factor++) {
+                memcpy(sum, set.known[place], MAX_LENGTH);
+                add_multiple(q, n, sum, rows + row * n, (uint8_t)factor);
+                mark_row(q, n, sum, &set);
+            }
 }
 
 static void span_group(uint64_t q, uint64_t n)
@@ -335,7 +391,7 @@ static void batch_group(void)
     memset(bytes, FILLING, sizeof bytes);
     memset(answers, FILLING, sizeof answers);
     check_group_begin("batch");
-    check(second_draw_batch(4, 3, 1, 0, extended, 3, bytes, 8, answers, 2) == REFUSED_FIELD, "1 before all");
+    check(second_draw_batch(6, 3, 1, 0, extended, 3, bytes, 8, answers, 2) == REFUSED_FIELD, "1 before all");
     check(second_draw_batch(2, 3, 4, 0, extended, 3, bytes, 8, answers, 2) == REFUSED_SHAPE, "2 before 10");
     check(second_draw_batch(2, 16, 8, 0, extended, 3, bytes, 8, answers, 2) == REFUSED_COUNT, "3 before 10");
     check(second_draw_batch(2, 3, 1, 0, extended, 3, bytes, 8, answers, 2) == REFUSED_NUMBERING, "10 before 4");
@@ -429,6 +485,10 @@ static void idle_figures_group(void)
     compare_taken(&receiver, "001/000/111/100", 3, ACCEPTED, "1200");
     second_start(7, 2, 1, &receiver);
     compare_taken(&receiver, "00/06/01/00/60/00/66", 2, ACCEPTED, "2102120");
+    second_start(4, 2, 1, &receiver);
+    compare_taken(&receiver, "00/12/23/31/00/13", 2, ACCEPTED, "210021"); /* 2 and 3 times 12 are held */
+    second_start(8, 2, 1, &receiver);
+    compare_taken(&receiver, "14/23/00/52/11", 2, ACCEPTED, "10201"); /* 2 and 5 times 14 */
     check_group_end();
 }
 
@@ -470,6 +530,10 @@ static void pool_figures_group(void)
     compare_pool_figure(3, 2, "11", "12", "10/01", "");
     compare_pool_figure(5, 3, "104/014", "100/010", "100/010/001", "140");
     compare_pool_figure(7, 4, "1000/0100", "1010/0101", "1000/0100/0010/0001", "");
+    compare_pool_figure(4, 2, "12", "23", "12", "12");
+    /* 130 and 150 are in the first spaces, as 2 + 3 * 3 = 0 in four and 2 + 5 * 4 = 0 in eight. */
+    compare_pool_figure(4, 3, "102/013", "100/010", "100/010/001", "130");
+    compare_pool_figure(8, 3, "102/014", "100/010", "100/010/001", "150");
     /* The same two spans with zeros between and around, too long for trying all rows. */
     compare_pool_figure(2, 16, "1000000000000001/0100000000000000", "0100000000000000/0010000000000000",
                         "1000000000000001/0100000000000000/0010000000000000", "0100000000000000");
@@ -506,10 +570,45 @@ static void table_groups(void)
 {
     for (unsigned place = 0; place < FIELD_COUNT; place++) {
         field_group(second_field_sizes[place]);
+        sums_group(second_field_sizes[place]);
         counts_group(place);
     }
+    products_group();
     vectors_group();
     count_figures_group();
+}
+
+static void space_groups(void)
+{
+    span_group(2, 8);
+    span_group(3, 6);
+    span_group(4, 5);
+    span_group(5, 4);
+    span_group(7, 4);
+    span_group(8, 3);
+    for (unsigned place = 0; place < FIELD_COUNT; place++)
+        told_vectors_group(second_field_sizes[place]);
+    common_group(2, 5);
+    common_group(2, 11);
+    common_group(3, 7);
+    common_group(4, 5);
+    common_group(5, 4);
+    common_group(7, 4);
+    common_group(8, 3);
+}
+
+static void receiver_groups(void)
+{
+    revived_group(2, 3);
+    revived_group(3, 2);
+    revived_group(4, 2);
+    revived_group(5, 2);
+    revived_group(7, 2);
+    revived_group(8, 2);
+    receiver_figures_group();
+    idle_figures_group();
+    pool_figures_group();
+    pool_refusals_group();
 }
 
 int main(int argument_count, char **arguments)
@@ -522,28 +621,11 @@ int main(int argument_count, char **arguments)
     }
     random_group(EXTENDED);
     random_group(FERRERS);
-    span_group(2, 8);
-    span_group(3, 6);
-    span_group(5, 4);
-    span_group(7, 4);
-    for (unsigned place = 0; place < FIELD_COUNT; place++)
-        told_vectors_group(second_field_sizes[place]);
-    common_group(2, 5);
-    common_group(2, 11);
-    common_group(3, 7);
-    common_group(5, 4);
-    common_group(7, 4);
+    space_groups();
     figures_group();
     order_figures_group();
     refusals_group();
     batch_group();
-    revived_group(2, 3);
-    revived_group(3, 2);
-    revived_group(5, 2);
-    revived_group(7, 2);
-    receiver_figures_group();
-    idle_figures_group();
-    pool_figures_group();
-    pool_refusals_group();
+    receiver_groups();
     return check_summary("selftest");
 }

@@ -1,14 +1,14 @@
 /*
- * Tests how Number tells 6 and 7: on every matrix of up to 3 rows and 3 columns with entries up to q, for q = 2 and 3;
- * and on reduced matrices of all accepted settings, each damaged in one named way. What must be told follows from
- * document 01's sentences, each of them tried by itself and on all places of the matrix. The second implementation is
- * held to the same, and gives the index of what isn't refused.
+ * Tests how Number tells 6 and 7: on every matrix of small shapes with entries up to q, up to 3 x 3 for q = 2 and 3 and
+ * 2 x 3 for the others; and on reduced matrices of all accepted settings, each damaged in one named way. What must be
+ * told follows from document 01's sentences, each of them tried by itself and on all places of the matrix. The second
+ * implementation is held to the same, and gives the index of what isn't refused.
  */
 #include "cases.h"
 #include "check.h"
 #include "harness.h"
 
-enum { SMALL_LENGTH = 3, DAMAGE_ROUNDS = 140 };
+enum { SMALL_LENGTH = 3, ALL_LIMIT = 600000, DAMAGE_ROUNDS = 140 };
 
 /* Document 01's sentences of a reduced matrix, by what breaks them; a set of them is a sum. */
 enum { ZERO_ROW = 1, PIVOT_NOT_ONE = 2, PIVOT_NOT_RIGHT = 4, PIVOT_NOT_ALONE = 8 };
@@ -173,11 +173,12 @@ static void compare_all_matrices(const setting *s)
     compare_tallies(s, seen);
 }
 
+/* Every shape that has few enough matrices. */
 static void all_matrices_group(uint64_t q)
 {
-    check_group_begin("every matrix up to 3 x 3, q = %" PRIu64 ", entries up to q", q);
+    check_group_begin("every matrix of small shapes, q = %" PRIu64 ", entries up to q", q);
     for (uint64_t n = 1; n <= SMALL_LENGTH; n++)
-        for (uint64_t k = 0; k <= n; k++) {
+        for (uint64_t k = 0; k <= n && power(q + 1, k * n) <= ALL_LIMIT; k++) {
             setting s = {q, n, k, 0};
             compare_all_matrices(&s);
         }
@@ -425,8 +426,8 @@ static void oversized_groups(size_t value)
 int main(int argument_count, char **arguments)
 {
     cases_begin(argument_count, arguments);
-    all_matrices_group(2);
-    all_matrices_group(3);
+    for (unsigned place = 0; place < FIELD_COUNT; place++)
+        all_matrices_group(second_field_sizes[place]);
     for (size_t place = 0; place < COUNT_OF(damages); place++)
         damage_group(&damages[place]);
     for (size_t value = 0; value < COUNT_OF(oversized); value++)

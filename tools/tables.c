@@ -5,7 +5,7 @@
 #include <stdio.h>
 #include <stdlib.h>
 
-static const unsigned SIZES[] = {2, 3, 5, 7}; // as in field/specs/Field.antt; powers of the first, 2, are shifts
+static const unsigned SIZES[] = {2, 3, 4, 5, 7, 8}; // as in field/specs/Field.antt
 
 enum {
     FIELDS = sizeof SIZES / sizeof *SIZES,
@@ -157,7 +157,7 @@ static void write_word(FILE *file, struct proof *proof, int key, uint64_t word)
     prove_arm(proof, key);
 }
 
-// The counts that are looked up, and the powers of all sizes after 2 within 64 bits.
+// The counts that are looked up, and the powers within 64 bits of the odd sizes; those of the others are shifts.
 static void write_counts_look_up(void)
 {
     FILE *file = begin("crates/counts/src/lookup.rt");
@@ -187,13 +187,14 @@ static void write_counts_look_up(void)
         "use Rattle.counts.specs.laws.Powers.{powers}\n",
         "powers ragged tabulate");
     begin_function(file, "power", "powers",
-        "The powers within 64 bits, those of a size after those of the size before; past them 0.");
+        "The powers within 64 bits of the odd sizes, those of a size after those of the size before; past them 0.");
     int key = 0;
-    for (int p = 1; p < FIELDS; p++) {
-        uint64_t power = 1;
-        do {
+    for (int p = 0; p < FIELDS; p++) {
+        uint64_t power = 1, last = SIZES[p] % 2 == 0;
+        while (!last) {
             write_word(file, &proof, key++, power);
-        } while (!__builtin_mul_overflow(power, (uint64_t)SIZES[p], &power));
+            last = __builtin_mul_overflow(power, (uint64_t)SIZES[p], &power);
+        }
     }
     end_function(file);
     end_proof(&proof);

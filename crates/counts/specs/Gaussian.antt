@@ -2,7 +2,8 @@
 --   gaussian q n k     == formula (4) of document 001, with 1 at k = 0 and 0 at k > n
 --   greatestCount      == 2^64 - 1
 --   tableEntry q n k   == document 01's table: the count, "a count above 2^64 - 1 is entered as 0"
---   counts             == the table, whole: "1,156 numbers" for "the four field sizes, all n and k from 0 to 16", by q, then n, then k
+--   counts             == the table, whole: for the field sizes "all n and k from 0 to 16", by q, then n, then k; order 7: "The table of
+--                         counts grows to 1,734 numbers."
 -- Assumes nothing.
 use mathlib.Core.List.{List}
 use Prim.Native.Nat.{ℕ, zero, suc, _+_, _*_, _-_, _^_, _/_, _%_}

@@ -12,7 +12,7 @@ ghost use Rattle.counts.specs.laws.Halves.{halfPlace};
 use table::COUNTS;
 
 // Document 01's table, whole; its rule is proved by one computed test. The calls read its entries by `coefficient`, which copies no table.
-pub fn all_counts() -> [u64; 1156]
+pub fn all_counts() -> [u64; 1734]
     ensures { λ r. ⌜ r ≡ counts ⌝ }
 {
     COUNTS
@@ -55,8 +55,10 @@ pub fn power(q: u64, m: usize) -> u64
     requires { ⌜ T (isFieldSize q) × (m ≤ 64) × (q ^ m ≤ greatestCount) ⌝ }
     ensures { λ r. ⌜ r ≡ q ^ m ⌝ }
 {
+    if q % 2 == 0 {
+        return 1u64 << field::bits(q) as usize * m;
+    }
     match q {
-        2 => 1u64 << m,
         3 => lookup::power(m as u64),
         5 => lookup::power(41 + m as u64),
         _ => lookup::power(69 + m as u64),

@@ -1,7 +1,7 @@
 -- Lemmas; no part of the meaning.
-pub mod Field
 pub mod Decide
 pub mod Small
+pub mod Kinds
+pub mod Polynomials
 pub mod Reciprocal
 pub mod Inverses
-pub mod InField

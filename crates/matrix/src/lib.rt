@@ -3,8 +3,10 @@ ghost use mathlib.Core.Path.{_≡_};
 ghost use mathlib.Core.List.{List};
 ghost use Prim.Native.Nat.{ℕ, _+_, _*_, _-_, _^_, _/_, _%_, _≤_, _<_};
 ghost use lib.Count.{trailingZeros};
-ghost use lib.Dec.{eqb, ltb};
+ghost use lib.Dec.{T, eqb, ltb};
 ghost use lib.ListN.{length, getD, replicate};
+ghost use Rattle.field.specs.Field.{isFieldSize};
+ghost use Rattle.field.specs.laws.Kinds.{elementBits};
 ghost use Rattle.matrix.specs.Matrix.{entry, lead as leadOf, pivot, entriesBelow, Reduced, identifying as vectorOf};
 ghost use Rattle.matrix.specs.Shape.{digitAt};
 ghost use Rattle.matrix.specs.laws.Shape.{topValue};
@@ -58,47 +60,39 @@ pub fn add_pivot(v: u16, n: usize, p: usize) -> u16
     v + (1u16 << (n - 1 - p))
 }
 
-// The last digit of x in base q. A constant divisor in each arm spares the division.
-fn last_digit(q: u64, x: u64) -> u8
-    requires { ⌜ (0 < q) × (q ≤ 256) ⌝ }
-    ensures { λ r. ⌜ r ≡ x % q ⌝ }
-{
-    match q {
-        2 => (x % 2) as u8,
-        3 => (x % 3) as u8,
-        5 => (x % 5) as u8,
-        7 => (x % 7) as u8,
-        _ => (x % q) as u8,
-    }
-}
-
-// The other digits of x in base q.
-fn other_digits(q: u64, x: u64) -> u64
-    requires { ⌜ 0 < q ⌝ }
+// The digits of x in base q but for the last. A constant divisor, or a shift by `bits`, spares the division.
+fn other_digits(q: u64, bits: u32, x: u64) -> u64
+    requires { ⌜ T (isFieldSize q) × (bits ≡ elementBits q) ⌝ }
     ensures { λ r. ⌜ r ≡ x / q ⌝ }
 {
+    if q % 2 == 0 {
+        if q == 2 {
+            return x / 2;
+        }
+        return x >> bits;
+    }
     match q {
-        2 => x / 2,
         3 => x / 3,
         5 => x / 5,
-        7 => x / 7,
-        _ => x / q,
+        _ => x / 7,
     }
 }
 
 // Writes the base-q digits of x into the first `rows` entries of column c, the last digit lowest, and answers the digits that are left. The
 // other entries are 0 already.
 pub fn write_digits(m: &mut [u8], q: u64, n: usize, k: usize, c: usize, rows: usize, x: u64) -> u64
-    requires { ⌜ (0 < q) × (q ≤ 256) × (c < n) × (rows ≤ k) × (k * n ≤ length (now m)) × Blank n k c rows (now m) ⌝ }
+    requires { ⌜ T (isFieldSize q) × (c < n) × (rows ≤ k) × (k * n ≤ length (now m)) × Blank n k c rows (now m) ⌝ }
     ensures { λ _. ⌜ Written n k c (digitAt q rows x) (now (m .entry)) (now (m .exit)) ⌝ }
     ensures { λ r. ⌜ r ≡ x / q ^ rows ⌝ }
 {
+    let bits = field::bits(q);
     let mut rest = x;
     let mut i = rows;
     while i > 0 {
         let a = i - 1;
-        m[a * n + c] = last_digit(q, rest);
-        rest = other_digits(q, rest);
+        let others = other_digits(q, bits, rest);
+        m[a * n + c] = (rest - others * q) as u8;
+        rest = others;
         i = a;
     }
     rest

@@ -1,6 +1,6 @@
 -- Lemmas; no part of the meaning.
 pub mod Steps
-pub mod Parts
+pub mod LeadsRead
 pub mod Residue
 pub mod PutAmong
 pub mod ClearAbove

@@ -9,7 +9,7 @@ use Prim.Native.Nat.{ℕ}
 use lib.Dec.{eqb}
 use Rattle.basics.specs.Choice.{pick}
 
--- q is none of the four
+-- q is none of the field sizes
 abbrev pub fieldSizeRefusal : ℕ
 fieldSizeRefusal = 1
 

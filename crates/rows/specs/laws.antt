@@ -1,6 +1,8 @@
 -- Lemmas; no part of the meaning.
 pub mod Steps
 pub mod Write
+pub mod Puts
 pub mod AddScaled
 pub mod Raise
 pub mod Monic
+pub mod Scaled

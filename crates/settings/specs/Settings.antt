@@ -1,5 +1,6 @@
 -- Settings and Count. Document 01: "Row length n is 1 to 16. Dimension k is 0 to n. Settings are accepted when N is at most
--- 2^64 - 1." "Count, from q, n, k: 1 if q is none of the four; 2 if n is outside 1 to 16 or k exceeds n; 3 if N exceeds 2^64 - 1."
+-- 2^64 - 1." "Count, from q, n, k: 1 if q is none of the four; 2 if n is outside 1 to 16 or k exceeds n; 3 if N exceeds 2^64 - 1." Order 7:
+-- "Number 1 is now for a q outside 2, 3, 4, 5, 7, 8."
 --   rowLengthOk n, rangeOk n k, countOk q n k == the tests behind 2 and 3
 --   settingsRefusal q n k == the first of 1, 2, 3 that applies, else 0; the calls that take settings begin with it
 --   countOf q n k     == what Count answers

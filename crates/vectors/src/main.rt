@@ -30,7 +30,7 @@ fn count(q: u64, n: u64, k: u64) {
 fn main() {
     count(2, 16, 6);
     count(2, 16, 7);
-    count(4, 6, 3);
+    count(6, 6, 3);
     count(2, 17, 3);
     count(2, 6, 3);
     count(3, 4, 2);

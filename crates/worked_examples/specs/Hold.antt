@@ -15,7 +15,8 @@ use Rattle.worked_examples.specs.Readings.{readings}
 use Rattle.worked_examples.specs.Refusals.{refusals}
 use Rattle.counts.specs.Gaussian.{gaussian}
 use Rattle.settings.specs.Settings.{rowLengthOk, rangeOk, countOk, settingsRefusal, countOf}
-use Rattle.field.specs.Field.{isFieldSize, add, multiply, negate, inverseFrom, invert}
+use Rattle.field.specs.Polynomial.{times, remainder}
+use Rattle.field.specs.Field.{isFieldSize, isPolynomial, add, multiply, negate, leastFrom, invert}
 use Rattle.matrix.specs.Matrix.{leadFrom, lead, pivotAt, identifying, columnValue, entriesBelow, columnAlone, rowReduced, isReduced}
 use Rattle.matrix.specs.Shape.{cell, flatten}
 use Rattle.matrix.specs.laws.Shape.{topValue}
@@ -75,13 +76,14 @@ each (e ∷ es) same = more (ap (λ l. getD l 0 []) same) (each es (ap (drop 1) 
 every : All Holds (marked ++ (readings ++ refusals))
 unfolding placeAfter bufferAfter listingOutput columnNames header linesFrom listingLine listRefusal parsed markedAt decimalAt digitRun
     isDigit reading isNumeral lineText numeral numeralWithin rowsText rowText gaussian rowLengthOk rangeOk countOk settingsRefusal countOf
-    isFieldSize add multiply negate inverseFrom invert leadFrom lead pivotAt identifying columnValue entriesBelow columnAlone rowReduced
-    isReduced topValue cell flatten onesAmong extendedTermAt extendedTerm extendedIndex extendedColumn extendedBefore extendedRank
-    extendedShape drawnExtended partitionsRow partitions freeFrom freeColumns dots diagram total size dottedFrom tableauOf tableau
-    tableauValue diagramTerm diagramPlace largerDiagrams ferrersIndex shapeSize boxCount shapePlace shapeTableau ferrersRank diagramShape
-    sizedShape ferrersShape drawnFerrers leadOf eliminate residue monic putAmong insertResidue insertRow insertRows reducedRows join
-    reducedOf dimension combinationAt combination InSpan SameSpan rowsOf HasDimension refuseUnless first unlessRefused isNumbering
-    numberingOf choiceRefusal drawRefusal drawBuffer batchRefusal drawParts drawAnswers batchMatrices batchAnswers entriesRefusal
+    isFieldSize isPolynomial times remainder add multiply negate leastFrom invert leadFrom lead pivotAt identifying columnValue
+    entriesBelow columnAlone rowReduced isReduced topValue cell flatten onesAmong extendedTermAt extendedTerm extendedIndex
+    extendedColumn extendedBefore extendedRank extendedShape drawnExtended partitionsRow partitions freeFrom freeColumns dots diagram
+    total size dottedFrom tableauOf tableau tableauValue diagramTerm diagramPlace largerDiagrams ferrersIndex shapeSize boxCount
+    shapePlace shapeTableau ferrersRank diagramShape sizedShape ferrersShape drawnFerrers leadOf eliminate residue monic putAmong
+    insertResidue insertRow insertRows reducedRows join reducedOf dimension combinationAt combination InSpan SameSpan rowsOf
+    HasDimension refuseUnless first unlessRefused isNumbering numberingOf choiceRefusal drawRefusal drawBuffer batchRefusal drawParts
+    drawAnswers batchMatrices batchAnswers entriesRefusal
     numberRefusal numberOf reduceRefusal reduceBuffer spaceAnswer
     rowsRefusal receiveRefusal receiveOf allBelow sum sumRange value tabulate padded refusedWord refusedLine reduceOf convertRefusal
     convertOf startOf wellFormed heldRows holding takeRefusal takenIn takeOf closeRefusal closeOf bytesOf exportedRefusal

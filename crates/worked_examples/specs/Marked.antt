@@ -3,7 +3,7 @@
 -- Assumes nothing.
 use mathlib.Core.List.{List, [], _∷_, _++_}
 use Prim.Native.Nat.{ℕ}
-use Rattle.worked_examples.specs.Answer.{Example, _⇒_, count, draw, number, reduce, receive, list, summands, lent, paper}
+use Rattle.worked_examples.specs.Answer.{Example, _⇒_, count, draw, number, reduce, receive, list, summands, lent, paper, fields}
 
 -- 000100/000010/000001
 abbrev last : List ℕ
@@ -19,11 +19,6 @@ sevenLines =
     ++ (52 ∷ 44 ∷ 51 ∷ 44 ∷ 49 ∷ 49 ∷ 49 ∷ 10 ∷ [])
     ++ (53 ∷ 44 ∷ 53 ∷ 44 ∷ 48 ∷ 49 ∷ 49 ∷ 10 ∷ [])
     ++ (54 ∷ 44 ∷ 54 ∷ 44 ∷ 48 ∷ 48 ∷ 49 ∷ 10 ∷ [])
-
--- the bytes of `extended,ferrers,rows` and a line feed
-abbrev fields : List ℕ
-fields =
-    101 ∷ 120 ∷ 116 ∷ 101 ∷ 110 ∷ 100 ∷ 101 ∷ 100 ∷ 44 ∷ 102 ∷ 101 ∷ 114 ∷ 114 ∷ 101 ∷ 114 ∷ 115 ∷ 44 ∷ 114 ∷ 111 ∷ 119 ∷ 115 ∷ 10 ∷ []
 
 abbrev pub marked : List Example
 marked =

@@ -4,7 +4,7 @@
 use mathlib.Core.List.{List, [], _∷_, _++_}
 use Prim.Native.Nat.{ℕ}
 use lib.ListN.{replicate}
-use Rattle.worked_examples.specs.Answer.{Example, _⇒_, number, draw, reduce, receive, receiveC, lent, paper}
+use Rattle.worked_examples.specs.Answer.{Example, _⇒_, number, draw, reduce, receive, receiveC, list, lent, paper, fields}
 
 -- diagrams of 3,1,1,1 and of 2,2,2,0 dots: at n = 7, k = 3 the first two diagrams that another order of formula (12) would exchange
 abbrev steep : List ℕ
@@ -12,6 +12,16 @@ steep = 1 ∷ 0 ∷ 0 ∷ 0 ∷ 0 ∷ 0 ∷ 0 ∷ 0 ∷ 0 ∷ 0 ∷ 0 ∷ 1 ∷ 
 
 abbrev level : List ℕ
 level = 0 ∷ 1 ∷ 0 ∷ 0 ∷ 0 ∷ 0 ∷ 0 ∷ 0 ∷ 0 ∷ 1 ∷ 0 ∷ 0 ∷ 0 ∷ 0 ∷ 0 ∷ 0 ∷ 0 ∷ 0 ∷ 0 ∷ 0 ∷ 1 ∷ []
+
+-- the bytes of `extended,ferrers,rows` and of the lines 0,0,10 1,1,11 2,2,12 3,3,13 4,4,01
+abbrev fiveLines : List ℕ
+fiveLines =
+    fields
+    ++ (48 ∷ 44 ∷ 48 ∷ 44 ∷ 49 ∷ 48 ∷ 10 ∷ [])
+    ++ (49 ∷ 44 ∷ 49 ∷ 44 ∷ 49 ∷ 49 ∷ 10 ∷ [])
+    ++ (50 ∷ 44 ∷ 50 ∷ 44 ∷ 49 ∷ 50 ∷ 10 ∷ [])
+    ++ (51 ∷ 44 ∷ 51 ∷ 44 ∷ 49 ∷ 51 ∷ 10 ∷ [])
+    ++ (52 ∷ 44 ∷ 52 ∷ 44 ∷ 48 ∷ 49 ∷ 10 ∷ [])
 
 abbrev pub readings : List Example
 readings =
@@ -29,6 +39,21 @@ readings =
     ∷ (reduce 7 2 1 (6 ∷ 1 ∷ []) (lent 4) ⇒ (0 ∷ 1 ∷ 2 ∷ 1 ∷ 6 ∷ 0 ∷ 0 ∷ []))
     ∷ (receive 5 2 1 1 1 (2 ∷ 1 ∷ []) ⇒ (0 ∷ 3 ∷ 1 ∷ 2 ∷ []))
     ∷ (receive 7 2 1 1 1 (3 ∷ 1 ∷ []) ⇒ (0 ∷ 5 ∷ 1 ∷ 2 ∷ []))
+    -- order 7: over four elements t·(t + 1) = 2 · 3 is 1, and over eight t·(t^2 + 1) = 2 · 5; with t^3 + t^2 + 1 it would be 2 · 6
+    ∷ (reduce 4 2 1 (2 ∷ 1 ∷ []) (lent 4) ⇒ (0 ∷ 1 ∷ 2 ∷ 1 ∷ 3 ∷ 0 ∷ 0 ∷ []))
+    ∷ (reduce 4 2 1 (3 ∷ 1 ∷ []) (lent 4) ⇒ (0 ∷ 1 ∷ 2 ∷ 1 ∷ 2 ∷ 0 ∷ 0 ∷ []))
+    ∷ (reduce 8 2 1 (2 ∷ 1 ∷ []) (lent 4) ⇒ (0 ∷ 1 ∷ 2 ∷ 1 ∷ 5 ∷ 0 ∷ 0 ∷ []))
+    ∷ (reduce 8 2 1 (3 ∷ 1 ∷ []) (lent 4) ⇒ (0 ∷ 1 ∷ 2 ∷ 1 ∷ 6 ∷ 0 ∷ 0 ∷ []))
+    ∷ (reduce 8 2 1 (4 ∷ 1 ∷ []) (lent 4) ⇒ (0 ∷ 1 ∷ 2 ∷ 1 ∷ 7 ∷ 0 ∷ 0 ∷ []))
+    ∷ (receive 4 2 1 1 1 (2 ∷ 1 ∷ []) ⇒ (0 ∷ 3 ∷ 1 ∷ 2 ∷ []))
+    ∷ (receive 8 2 1 2 1 (2 ∷ 1 ∷ []) ⇒ (0 ∷ 5 ∷ 1 ∷ 2 ∷ []))
+    -- sums are bit by bit: 113 and 132 differ by 021, and 153 and 174 by 027; modulo q they would differ by 023 and 021
+    ∷ (reduce 4 3 2 (1 ∷ 1 ∷ 3 ∷ 1 ∷ 3 ∷ 2 ∷ []) (lent 9) ⇒ (0 ∷ 2 ∷ 6 ∷ 1 ∷ 0 ∷ 0 ∷ 0 ∷ 1 ∷ 3 ∷ 0 ∷ 0 ∷ 0 ∷ []))
+    ∷ (reduce 8 3 2 (1 ∷ 5 ∷ 3 ∷ 1 ∷ 7 ∷ 4 ∷ []) (lent 9) ⇒ (0 ∷ 2 ∷ 6 ∷ 1 ∷ 0 ∷ 0 ∷ 0 ∷ 1 ∷ 6 ∷ 0 ∷ 0 ∷ 0 ∷ []))
+    -- numberings and listing use the entries as numbers
+    ∷ (number 8 3 1 1 (1 ∷ 2 ∷ 7 ∷ []) ⇒ (0 ∷ 65 ∷ []))
+    ∷ (draw 8 3 1 2 58 (lent 3) ⇒ (0 ∷ 1 ∷ 2 ∷ 7 ∷ []))
+    ∷ (list (52 ∷ 44 ∷ 50 ∷ 44 ∷ 49 ∷ 10 ∷ []) ⇒ fiveLines)
     -- an identifying vector is read from the right, column 1 at value 1: 011001/000100/000011 has 010110, 22, and not 26; 44 or 11
     ∷ (reduce 2 6 3 paper (lent 36) ⇒ (0 ∷ 3 ∷ 22 ∷ paper ++ replicate 18 0))
     ∷ (receive 2 6 3 1 3 paper ⇒ (0 ∷ 928 ∷ 3 ∷ 22 ∷ []))

@@ -56,7 +56,7 @@ abbrev tooManyRows : Receiver
 tooManyRows = receiver 2 3 2 4 []
 
 abbrev noField : Receiver
-noField = receiver 4 3 2 0 []
+noField = receiver 6 3 2 0 []
 
 abbrev oversized : Receiver
 oversized = receiver 2 3 2 1 (2 ∷ 0 ∷ 0 ∷ [])
@@ -93,24 +93,28 @@ refused12 = 114 ∷ 101 ∷ 102 ∷ 117 ∷ 115 ∷ 101 ∷ 100 ∷ 44 ∷ 49 �
 abbrev pub refusals : List Example
 refusals =
     -- Count: 1; 2, for n outside 1 to 16 and for k above n; 3; then the first of two
-    (count 4 3 1 ⇒ (1 ∷ 0 ∷ []))
-    ∷ (count 6 3 1 ⇒ (1 ∷ 0 ∷ []))
+    (count 6 3 1 ⇒ (1 ∷ 0 ∷ []))
+    ∷ (count 9 3 1 ⇒ (1 ∷ 0 ∷ []))
     ∷ (count 11 3 1 ⇒ (1 ∷ 0 ∷ []))
+    ∷ (count 16 3 1 ⇒ (1 ∷ 0 ∷ []))
+    ∷ (count 1 3 1 ⇒ (1 ∷ 0 ∷ []))
     ∷ (count 0 3 1 ⇒ (1 ∷ 0 ∷ []))
     ∷ (count 2 0 0 ⇒ (2 ∷ 0 ∷ []))
     ∷ (count 2 17 0 ⇒ (2 ∷ 0 ∷ []))
     ∷ (count 2 3 4 ⇒ (2 ∷ 0 ∷ []))
     ∷ (count 7 10 5 ⇒ (3 ∷ 0 ∷ []))
-    ∷ (count 4 17 1 ⇒ (1 ∷ 0 ∷ []))
+    ∷ (count 6 17 1 ⇒ (1 ∷ 0 ∷ []))
     ∷ (count 2 17 8 ⇒ (2 ∷ 0 ∷ []))
     -- and where none applies: each size, and the longest row
     ∷ (count 2 16 1 ⇒ (0 ∷ 65535 ∷ []))
     ∷ (count 3 2 1 ⇒ (0 ∷ 4 ∷ []))
+    ∷ (count 4 2 1 ⇒ (0 ∷ 5 ∷ []))
     ∷ (count 5 2 1 ⇒ (0 ∷ 6 ∷ []))
     ∷ (count 7 2 1 ⇒ (0 ∷ 8 ∷ []))
+    ∷ (count 8 2 1 ⇒ (0 ∷ 9 ∷ []))
     ∷ (count 7 16 16 ⇒ (0 ∷ 1 ∷ []))
     -- Draw: each refusal alone leaves the buffer
-    ∷ (draw 4 3 1 1 0 (lent 3) ⇒ (1 ∷ (lent 3)))
+    ∷ (draw 6 3 1 1 0 (lent 3) ⇒ (1 ∷ (lent 3)))
     ∷ (draw 2 17 1 1 0 (lent 3) ⇒ (2 ∷ (lent 3)))
     ∷ (draw 7 10 5 1 0 (lent 3) ⇒ (3 ∷ (lent 3)))
     ∷ (draw 2 3 1 0 0 (lent 3) ⇒ (10 ∷ (lent 3)))
@@ -120,7 +124,7 @@ refusals =
     ∷ (draw 2 3 1 1 7 (lent 3) ⇒ (5 ∷ (lent 3)))
     ∷ (draw 2 3 1 2 7 (lent 3) ⇒ (5 ∷ (lent 3)))
     -- and of two neighbours the first is told
-    ∷ (draw 4 17 1 1 0 (lent 3) ⇒ (1 ∷ (lent 3)))
+    ∷ (draw 6 17 1 1 0 (lent 3) ⇒ (1 ∷ (lent 3)))
     ∷ (draw 2 17 8 1 0 (lent 3) ⇒ (2 ∷ (lent 3)))
     ∷ (draw 7 10 5 3 0 (lent 3) ⇒ (3 ∷ (lent 3)))
     ∷ (draw 2 3 1 3 0 (lent 1) ⇒ (10 ∷ (lent 1)))
@@ -129,7 +133,7 @@ refusals =
     ∷ (draw 2 3 1 1 2 (lent 3) ⇒ (0 ∷ (0 ∷ 1 ∷ 0 ∷ [])))
     ∷ (draw 2 3 1 2 2 (lent 3) ⇒ (0 ∷ (1 ∷ 0 ∷ 1 ∷ [])))
     -- Drawing a list: each refusal of the whole alone leaves both buffers, the matrices of 165s and then the answers of 9s
-    ∷ (drawBatch 4 3 1 1 (0 ∷ 1 ∷ []) (lent 6) (9 ∷ 9 ∷ []) ⇒ (1 ∷ lent 6 ++ (9 ∷ 9 ∷ [])))
+    ∷ (drawBatch 6 3 1 1 (0 ∷ 1 ∷ []) (lent 6) (9 ∷ 9 ∷ []) ⇒ (1 ∷ lent 6 ++ (9 ∷ 9 ∷ [])))
     ∷ (drawBatch 2 17 1 1 (0 ∷ 1 ∷ []) (lent 34) (9 ∷ 9 ∷ []) ⇒ (2 ∷ lent 34 ++ (9 ∷ 9 ∷ [])))
     ∷ (drawBatch 7 10 5 1 (0 ∷ []) (lent 50) (9 ∷ []) ⇒ (3 ∷ lent 50 ++ (9 ∷ [])))
     ∷ (drawBatch 2 3 1 0 (0 ∷ 1 ∷ []) (lent 6) (9 ∷ 9 ∷ []) ⇒ (10 ∷ lent 6 ++ (9 ∷ 9 ∷ [])))
@@ -139,7 +143,7 @@ refusals =
     ∷ (drawBatch 2 3 1 1 (0 ∷ 1 ∷ []) (lent 6) (9 ∷ []) ⇒ (4 ∷ lent 6 ++ (9 ∷ [])))
     ∷ (drawBatch 2 3 1 1 (0 ∷ 1 ∷ []) (lent 6) (9 ∷ 9 ∷ 9 ∷ []) ⇒ (4 ∷ lent 6 ++ (9 ∷ 9 ∷ 9 ∷ [])))
     -- and of two neighbours the first is told
-    ∷ (drawBatch 4 17 1 1 (0 ∷ []) (lent 17) (9 ∷ []) ⇒ (1 ∷ lent 17 ++ (9 ∷ [])))
+    ∷ (drawBatch 6 17 1 1 (0 ∷ []) (lent 17) (9 ∷ []) ⇒ (1 ∷ lent 17 ++ (9 ∷ [])))
     ∷ (drawBatch 2 17 8 1 (0 ∷ []) (lent 3) (9 ∷ []) ⇒ (2 ∷ lent 3 ++ (9 ∷ [])))
     ∷ (drawBatch 7 10 5 3 (0 ∷ []) (lent 50) (9 ∷ []) ⇒ (3 ∷ lent 50 ++ (9 ∷ [])))
     ∷ (drawBatch 2 3 1 3 (0 ∷ []) (lent 1) (9 ∷ []) ⇒ (10 ∷ lent 1 ++ (9 ∷ [])))
@@ -156,7 +160,7 @@ refusals =
     ∷ (drawBatch 2 3 0 1 (0 ∷ 1 ∷ 0 ∷ []) [] (9 ∷ 9 ∷ 9 ∷ []) ⇒ (0 ∷ 0 ∷ 5 ∷ 0 ∷ []))
     ∷ (drawBatch 2 3 0 2 (0 ∷ []) (lent 1) (9 ∷ []) ⇒ (4 ∷ lent 1 ++ (9 ∷ [])))
     -- Number
-    ∷ (number 4 3 1 1 (0 ∷ 1 ∷ 0 ∷ []) ⇒ (1 ∷ 0 ∷ []))
+    ∷ (number 6 3 1 1 (0 ∷ 1 ∷ 0 ∷ []) ⇒ (1 ∷ 0 ∷ []))
     ∷ (number 2 17 1 1 (0 ∷ 1 ∷ 0 ∷ []) ⇒ (2 ∷ 0 ∷ []))
     ∷ (number 7 10 5 1 (0 ∷ 1 ∷ 0 ∷ []) ⇒ (3 ∷ 0 ∷ []))
     ∷ (number 2 3 1 0 (0 ∷ 1 ∷ 0 ∷ []) ⇒ (10 ∷ 0 ∷ []))
@@ -164,7 +168,7 @@ refusals =
     ∷ (number 2 3 1 1 (0 ∷ 1 ∷ []) ⇒ (4 ∷ 0 ∷ []))
     ∷ (number 2 3 1 1 (0 ∷ 2 ∷ 0 ∷ []) ⇒ (6 ∷ 0 ∷ []))
     ∷ (number 2 3 1 1 (0 ∷ 0 ∷ 0 ∷ []) ⇒ (7 ∷ 0 ∷ []))
-    ∷ (number 4 17 1 1 (0 ∷ 1 ∷ 0 ∷ []) ⇒ (1 ∷ 0 ∷ []))
+    ∷ (number 6 17 1 1 (0 ∷ 1 ∷ 0 ∷ []) ⇒ (1 ∷ 0 ∷ []))
     ∷ (number 2 17 8 1 (0 ∷ 1 ∷ 0 ∷ []) ⇒ (2 ∷ 0 ∷ []))
     ∷ (number 7 10 5 3 (0 ∷ 1 ∷ 0 ∷ []) ⇒ (3 ∷ 0 ∷ []))
     ∷ (number 2 3 1 3 (0 ∷ []) ⇒ (10 ∷ 0 ∷ []))
@@ -178,14 +182,14 @@ refusals =
     ∷ (number 2 3 1 1 (0 ∷ 1 ∷ 0 ∷ []) ⇒ (0 ∷ 2 ∷ []))
     ∷ (number 2 3 1 2 (0 ∷ 1 ∷ 0 ∷ []) ⇒ (0 ∷ 4 ∷ []))
     -- Convert: 10 for the first numbering, then the second; 5
-    ∷ (convert 4 3 1 1 2 0 ⇒ (1 ∷ 0 ∷ []))
+    ∷ (convert 6 3 1 1 2 0 ⇒ (1 ∷ 0 ∷ []))
     ∷ (convert 2 17 1 1 2 0 ⇒ (2 ∷ 0 ∷ []))
     ∷ (convert 7 10 5 1 2 0 ⇒ (3 ∷ 0 ∷ []))
     ∷ (convert 2 3 1 0 2 0 ⇒ (10 ∷ 0 ∷ []))
     ∷ (convert 2 3 1 1 0 0 ⇒ (10 ∷ 0 ∷ []))
     ∷ (convert 2 3 1 1 2 7 ⇒ (5 ∷ 0 ∷ []))
     -- of two neighbours the first
-    ∷ (convert 4 17 1 1 2 0 ⇒ (1 ∷ 0 ∷ []))
+    ∷ (convert 6 17 1 1 2 0 ⇒ (1 ∷ 0 ∷ []))
     ∷ (convert 2 17 8 1 2 0 ⇒ (2 ∷ 0 ∷ []))
     ∷ (convert 7 10 5 3 2 0 ⇒ (3 ∷ 0 ∷ []))
     ∷ (convert 2 3 1 3 1 7 ⇒ (10 ∷ 0 ∷ []))
@@ -196,7 +200,7 @@ refusals =
     ∷ (convert 2 3 1 1 1 2 ⇒ (0 ∷ 2 ∷ []))
     ∷ (convert 2 3 1 2 2 4 ⇒ (0 ∷ 4 ∷ []))
     -- Reduce: the refusal number, the dimension, the identifying vector, the output
-    ∷ (reduce 4 2 1 (1 ∷ 0 ∷ []) (lent 4) ⇒ (1 ∷ 0 ∷ 0 ∷ (lent 4)))
+    ∷ (reduce 6 2 1 (1 ∷ 0 ∷ []) (lent 4) ⇒ (1 ∷ 0 ∷ 0 ∷ (lent 4)))
     ∷ (reduce 2 0 0 [] [] ⇒ (2 ∷ 0 ∷ 0 ∷ []))
     ∷ (reduce 2 17 0 [] [] ⇒ (2 ∷ 0 ∷ 0 ∷ []))
     ∷ (reduce 2 1 65 (replicate 65 1) (lent 1) ⇒ (13 ∷ 0 ∷ 0 ∷ (lent 1)))
@@ -204,7 +208,7 @@ refusals =
     ∷ (reduce 2 2 1 (1 ∷ 0 ∷ []) (lent 3) ⇒ (4 ∷ 0 ∷ 0 ∷ (lent 3)))
     ∷ (reduce 2 2 1 (1 ∷ 2 ∷ []) (lent 4) ⇒ (6 ∷ 0 ∷ 0 ∷ (lent 4)))
     -- of two neighbours the first
-    ∷ (reduce 4 17 0 [] [] ⇒ (1 ∷ 0 ∷ 0 ∷ []))
+    ∷ (reduce 6 17 0 [] [] ⇒ (1 ∷ 0 ∷ 0 ∷ []))
     ∷ (reduce 2 17 65 [] [] ⇒ (2 ∷ 0 ∷ 0 ∷ []))
     ∷ (reduce 2 2 65 [] (lent 4) ⇒ (13 ∷ 0 ∷ 0 ∷ (lent 4)))
     ∷ (reduce 2 2 1 (2 ∷ []) (lent 4) ⇒ (4 ∷ 0 ∷ 0 ∷ (lent 4)))
@@ -214,7 +218,7 @@ refusals =
     ∷ (reduce 2 2 0 [] (lent 4) ⇒ (0 ∷ 0 ∷ 0 ∷ (0 ∷ 0 ∷ 0 ∷ 0 ∷ [])))
     ∷ (reduce 2 1 64 (replicate 64 1) (lent 1) ⇒ (0 ∷ 1 ∷ 1 ∷ (1 ∷ [])))
     -- Receive: the refusal number, the index, the dimension, the identifying vector
-    ∷ (receive 4 3 1 1 1 (0 ∷ 1 ∷ 0 ∷ []) ⇒ (1 ∷ 0 ∷ 0 ∷ 0 ∷ []))
+    ∷ (receive 6 3 1 1 1 (0 ∷ 1 ∷ 0 ∷ []) ⇒ (1 ∷ 0 ∷ 0 ∷ 0 ∷ []))
     ∷ (receive 2 17 1 1 1 (0 ∷ 1 ∷ 0 ∷ []) ⇒ (2 ∷ 0 ∷ 0 ∷ 0 ∷ []))
     ∷ (receive 7 10 5 1 1 (0 ∷ 1 ∷ 0 ∷ []) ⇒ (3 ∷ 0 ∷ 0 ∷ 0 ∷ []))
     ∷ (receive 2 3 1 0 1 (0 ∷ 1 ∷ 0 ∷ []) ⇒ (10 ∷ 0 ∷ 0 ∷ 0 ∷ []))
@@ -225,11 +229,11 @@ refusals =
     ∷ (receive 2 3 1 1 1 (0 ∷ 0 ∷ 0 ∷ []) ⇒ (8 ∷ 0 ∷ 0 ∷ 0 ∷ []))
     ∷ (receive 2 3 1 1 2 (1 ∷ 0 ∷ 0 ∷ 0 ∷ 1 ∷ 0 ∷ []) ⇒ (9 ∷ 0 ∷ 2 ∷ 6 ∷ []))
     -- of two neighbours the first
-    ∷ (receive 4 17 1 1 1 (0 ∷ 1 ∷ 0 ∷ []) ⇒ (1 ∷ 0 ∷ 0 ∷ 0 ∷ []))
+    ∷ (receive 6 17 1 1 1 (0 ∷ 1 ∷ 0 ∷ []) ⇒ (1 ∷ 0 ∷ 0 ∷ 0 ∷ []))
     ∷ (receive 2 17 8 1 1 (0 ∷ 1 ∷ 0 ∷ []) ⇒ (2 ∷ 0 ∷ 0 ∷ 0 ∷ []))
     ∷ (receive 7 10 5 3 1 (0 ∷ 1 ∷ 0 ∷ []) ⇒ (3 ∷ 0 ∷ 0 ∷ 0 ∷ []))
     ∷ (receive 2 3 1 3 65 [] ⇒ (10 ∷ 0 ∷ 0 ∷ 0 ∷ []))
-    ∷ (receive 4 3 1 1 65 [] ⇒ (1 ∷ 0 ∷ 0 ∷ 0 ∷ []))
+    ∷ (receive 6 3 1 1 65 [] ⇒ (1 ∷ 0 ∷ 0 ∷ 0 ∷ []))
     ∷ (receive 2 3 1 1 65 [] ⇒ (13 ∷ 0 ∷ 0 ∷ 0 ∷ []))
     ∷ (receive 2 3 1 1 1 (2 ∷ []) ⇒ (4 ∷ 0 ∷ 0 ∷ 0 ∷ []))
     ∷ (receive 2 3 2 1 1 (0 ∷ 2 ∷ 0 ∷ []) ⇒ (6 ∷ 0 ∷ 0 ∷ 0 ∷ []))
@@ -237,7 +241,7 @@ refusals =
     ∷ (receive 2 3 1 1 2 (0 ∷ 1 ∷ 0 ∷ 0 ∷ 1 ∷ 0 ∷ []) ⇒ (0 ∷ 2 ∷ 1 ∷ 2 ∷ []))
     ∷ (receive 2 3 1 2 1 (0 ∷ 1 ∷ 0 ∷ []) ⇒ (0 ∷ 4 ∷ 1 ∷ 2 ∷ []))
     -- Receive for C: what it returns, and the eleven bytes; a program built for nine keeps its buffer
-    ∷ (receiveC 4 3 1 1 1 (0 ∷ 1 ∷ 0 ∷ []) (lent 11) ⇒ (1 ∷ (lent 11)))
+    ∷ (receiveC 6 3 1 1 1 (0 ∷ 1 ∷ 0 ∷ []) (lent 11) ⇒ (1 ∷ (lent 11)))
     ∷ (receiveC 2 17 1 1 1 (0 ∷ 1 ∷ 0 ∷ []) (lent 11) ⇒ (2 ∷ (lent 11)))
     ∷ (receiveC 7 10 5 1 1 (0 ∷ 1 ∷ 0 ∷ []) (lent 11) ⇒ (3 ∷ (lent 11)))
     ∷ (receiveC 2 3 1 3 1 (0 ∷ 1 ∷ 0 ∷ []) (lent 11) ⇒ (10 ∷ (lent 11)))
@@ -280,10 +284,10 @@ refusals =
     ∷ (pool noRows twoRows (lent 9) (lent 9)
     ⇒ (0 ∷ 2 ∷ 0 ∷ image twoRows ++ (1 ∷ 0 ∷ 1 ∷ 0 ∷ 1 ∷ 1 ∷ 0 ∷ 0 ∷ 0 ∷ 0 ∷ 0 ∷ 0 ∷ 0 ∷ 0 ∷ 0 ∷ 0 ∷ 0 ∷ 0 ∷ [])))
     -- Start: the refusal number, and the receiver, which is of all zeros where it refuses
-    ∷ (start 4 3 1 ⇒ (1 ∷ (image zeros)))
+    ∷ (start 6 3 1 ⇒ (1 ∷ (image zeros)))
     ∷ (start 2 17 1 ⇒ (2 ∷ (image zeros)))
     ∷ (start 7 10 5 ⇒ (3 ∷ (image zeros)))
-    ∷ (start 4 17 1 ⇒ (1 ∷ (image zeros)))
+    ∷ (start 6 17 1 ⇒ (1 ∷ (image zeros)))
     ∷ (start 2 17 8 ⇒ (2 ∷ (image zeros)))
     ∷ (start 2 3 1 ⇒ (0 ∷ (2 ∷ 3 ∷ 1 ∷ 0 ∷ replicate 256 0)))
     -- Take, by value and lent: the refusal number, 1 for "raised", 1 for "idle", and the receiver; zeros are idle on a receiver of any
@@ -353,14 +357,14 @@ refusals =
     ∷ (list (44 ∷ 51 ∷ 44 ∷ 49 ∷ 10 ∷ []) ⇒ refused11)
     ∷ (list (120 ∷ 44 ∷ 51 ∷ 44 ∷ 49 ∷ 10 ∷ []) ⇒ refused11)
     -- 1, 2, 3, 12, and of two the first
-    ∷ (list (52 ∷ 44 ∷ 51 ∷ 44 ∷ 49 ∷ 10 ∷ []) ⇒ refused1)
+    ∷ (list (54 ∷ 44 ∷ 51 ∷ 44 ∷ 49 ∷ 10 ∷ []) ⇒ refused1)
     ∷ (list (50 ∷ 44 ∷ 49 ∷ 55 ∷ 44 ∷ 49 ∷ 10 ∷ []) ⇒ refused2)
     ∷ (list (50 ∷ 44 ∷ 48 ∷ 44 ∷ 48 ∷ 10 ∷ []) ⇒ refused2)
     ∷ (list (50 ∷ 44 ∷ 51 ∷ 44 ∷ 52 ∷ 10 ∷ []) ⇒ refused2)
     ∷ (list (55 ∷ 44 ∷ 49 ∷ 48 ∷ 44 ∷ 53 ∷ 10 ∷ []) ⇒ refused3)
     ∷ (list (50 ∷ 44 ∷ 49 ∷ 48 ∷ 44 ∷ 51 ∷ 10 ∷ []) ⇒ refused12)
-    ∷ (list (52 ∷ 44 ∷ 51 ∷ 44 ∷ 49 ∷ []) ⇒ refused11)
-    ∷ (list (52 ∷ 44 ∷ 49 ∷ 55 ∷ 44 ∷ 49 ∷ 10 ∷ []) ⇒ refused1)
+    ∷ (list (54 ∷ 44 ∷ 51 ∷ 44 ∷ 49 ∷ []) ⇒ refused11)
+    ∷ (list (54 ∷ 44 ∷ 49 ∷ 55 ∷ 44 ∷ 49 ∷ 10 ∷ []) ⇒ refused1)
     ∷ (list (50 ∷ 44 ∷ 49 ∷ 55 ∷ 44 ∷ 56 ∷ 10 ∷ []) ⇒ refused2)
     ∷ (list (48 ∷ 48 ∷ 48 ∷ 44 ∷ 51 ∷ 44 ∷ 49 ∷ 10 ∷ []) ⇒ refused11)
     ∷ (list (57 ∷ 57 ∷ 57 ∷ 44 ∷ 51 ∷ 44 ∷ 49 ∷ 10 ∷ []) ⇒ refused1)

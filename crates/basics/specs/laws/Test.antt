@@ -1,9 +1,10 @@
 -- Tests that compute, each with the statement that it shows: a statement over finitely many numbers is proved by running its test.
 --   Test A          == a Bool, and a proof of A where it is true
---   equal, below    == the tests of m ≡ n and of m < n
+--   equal, below, same == the tests of m ≡ n and of m < n, and that two Bools are the same
 --   equalLists      == the test that two lists are the same
 --   always, _⊛_     == a statement that needs no test, and one more premise tested: the test of what follows from several
 --   unless-zero     == the test of a statement about nonzero numbers
+--   decided, whenever == a test itself as a statement, and the test of what needs to hold only where another test does
 --   every, -Pair, -Triple == the tests of a statement about all numbers below q, all pairs, all triples
 -- Assumes nothing.
 use mathlib.Core.Path.{_≡_, refl, ap₂, subst, sym}
@@ -23,6 +24,12 @@ equal m n = record { holds = eqb m n; shows = eqb→eq m n }
 
 abbrev pub below : (m n : ℕ) → Test (m < n)
 below m n = record { holds = ltb m n; shows = ltb→lt m n }
+
+abbrev pub same : (a b : Bool) → Test (a ≡ b)
+same true true = record { holds = true; shows = λ _. refl }
+same true false = record { holds = false; shows = λ t. absurd t }
+same false true = record { holds = false; shows = λ t. absurd t }
+same false false = record { holds = true; shows = λ _. refl }
 
 pub and-left : (a b : Bool) → T (a && b) → T a
 and-left true b t = tt
@@ -52,6 +59,13 @@ equalLists (x ∷ xs) (y ∷ ys) = always (ap₂ (λ (a : ℕ) (l : List ℕ). a
 abbrev pub unless-zero : (a : ℕ) (A : Type 0) → Test A → Test (0 < a → A)
 unless-zero zero A t = record { holds = true; shows = λ _ h. absurd (not-suc-le-zero h) }
 unless-zero (suc a) A t = record { holds = t .holds; shows = λ s _. t .shows s }
+
+abbrev pub decided : (b : Bool) → Test (T b)
+decided b = record { holds = b; shows = λ t. t }
+
+abbrev pub whenever : (b : Bool) (A : Type 0) → Test A → Test (T b → A)
+whenever true A t = record { holds = t .holds; shows = λ s _. t .shows s }
+whenever false A t = record { holds = true; shows = λ _ f. absurd f }
 
 abbrev pub every : (P : ℕ → Type 0) → ((a : ℕ) → Test (P a)) → (q : ℕ) → Test ((a : ℕ) → a < q → P a)
 every P f zero = record { holds = true; shows = λ _ a h. absurd (not-suc-le-zero h) }

@@ -11,7 +11,7 @@ use lib.Seq.{length-take-le}
 use Rattle.basics.specs.laws.Flat.{row-fits}
 use Rattle.linear.specs.Eliminate.{leadOf, join}
 use Rattle.reduction.specs.Padded.{padded}
-use Rattle.reduction.specs.laws.Parts.{lead-read}
+use Rattle.reduction.specs.laws.LeadsRead.{lead-read}
 use Rattle.double_rows.specs.laws.Fill.{halves, halves-grow}
 use Rattle.double_rows.specs.laws.Stack.{Halved, halved-start, halved-room, halved-step}
 use Rattle.double_rows.proofs.right_halves.Statement.{statement}

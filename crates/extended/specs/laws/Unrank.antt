@@ -96,10 +96,8 @@ module _ {q n k i v columns c rows rest : ℕ} {m : List ℕ} (a : Accepted q n 
   free-asked =
       (a .size, omega (arith, u .columns, a .narrow), omega (arith, u .few, a .dimension, a .narrow), le-trans (u .count) (a .counted))
 
-  pub write-asked : (0 < q) × (q ≤ 256) × (c < n) × (rows ≤ k) × (k * n ≤ length m) × Blank n k c rows m
-  write-asked =
-      let size = size-small q (a .size) in
-      (omega arith, omega arith, u .columns, u .few, omega (arith, u .drawing .sized), drawing-blank rows (u .drawing))
+  pub write-asked : T (isFieldSize q) × (c < n) × (rows ≤ k) × (k * n ≤ length m) × Blank n k c rows m
+  write-asked = (a .size, u .columns, u .few, omega (arith, u .drawing .sized), drawing-blank rows (u .drawing))
 
   shorter : gaussian q c rows ≤ gaussian q n k
   shorter = let size = size-small q (a .size) in le-trans (gaussian-longer-le q c rows (omega arith)) (u .count)

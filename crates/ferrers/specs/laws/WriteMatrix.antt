@@ -19,11 +19,12 @@ use native.Mathlib.Numerals.{add-one}
 use native.Mathlib.Omega.{arith}
 use borrow.Author.Tests.{eq-eqb, lt-ltb, le-ltb}
 use lib.Arith.{digits-div}
-use lib.Dec.{eqb}
+use lib.Dec.{T, eqb}
 use lib.ListN.{length, replicate}
 use lib.Pow.{pow-add}
 use Rattle.basics.specs.laws.Digits.{digits-joined, lower-digit}
 use Rattle.basics.specs.laws.Order.{le-or-lt}
+use Rattle.field.specs.Field.{isFieldSize}
 use Rattle.field.specs.laws.Small.{size-small}
 use Rattle.settings.specs.laws.Accepted.{Accepted}
 use Rattle.matrix.specs.laws.DrawColumns.{drawing-start}
@@ -195,10 +196,8 @@ module _ {q n k v tableau c rows entries : ℕ} {S : Shape} {m : List ℕ} (shap
   rows-few : rows ≤ k
   rows-few = omega (arith, u .rows-are, inner-at (shaped .valid) (n - c) c (omega arith) .few)
 
-  pub write-asked : Accepted q n k → (0 < q) × (q ≤ 256) × (c < n) × (rows ≤ k) × (k * n ≤ length m) × Blank n k c rows m
-  write-asked a =
-      let (big, small) = size-small q (a .size) in
-      (omega arith, omega arith, inside, rows-few, le-of-eq (sym (u .sized)), λ i h l. u .blank i c l (omega arith) inside)
+  pub write-asked : Accepted q n k → T (isFieldSize q) × (c < n) × (rows ≤ k) × (k * n ≤ length m) × Blank n k c rows m
+  write-asked a = (a .size, inside, rows-few, le-of-eq (sym (u .sized)), λ i h l. u .blank i c l (omega arith) inside)
 
   pub unranking-free : (rest′ : ℕ) (m′ : List ℕ) → Accepted q n k → eqb (v / 2 ^ (n - 1 - c) % 2) 1 ≡ false
       → Written n k c (digitAt q rows entries) m m′ → rest′ ≡ entries / q ^ rows → Unranking q n k S m′ (c + 1) rows rest′

@@ -12,7 +12,7 @@ position-requires c κs = search needs
 
 returns : tie.Need-returns
 unfolding isFieldSize
-returns c = ap (λ p. ltb p 4) (c .position .ensures) ∙ position-member (c .before .args .q) fieldSizes
+returns c = ap (λ p. ltb p 6) (c .position .ensures) ∙ position-member (c .before .args .q) fieldSizes
 
 pub is-size-spec : {M : Type 1} → statement M
 is-size-spec = tie.close (tie.spec position-requires returns)

@@ -18,8 +18,14 @@ returns-4 : tie.Need-returns-4
 returns-4 c = rw (c .match .keys4)
 
 returns-5 : tie.Need-returns-5
+returns-5 c = rw (c .match .keys5)
+
+returns-6 : tie.Need-returns-6
+returns-6 c = rw (c .match .keys6)
+
+returns-7 : tie.Need-returns-7
 unfolding isFieldSize
-returns-5 c = rw (position-none _ fieldSizes (no-size _ (c .match .rest)))
+returns-7 c = rw (position-none _ fieldSizes (no-size _ (c .match .rest)))
 
 pub position-spec : {M : Type 1} → statement M
-position-spec = tie.close (tie.spec returns returns-2 returns-3 returns-4 returns-5)
+position-spec = tie.close (tie.spec returns returns-2 returns-3 returns-4 returns-5 returns-6 returns-7)

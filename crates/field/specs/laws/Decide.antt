@@ -1,4 +1,4 @@
--- The four field sizes obey the laws: one test over all elements, with q a parameter, run at each size.
+-- The six field sizes obey the laws: one test over all elements, with q a parameter, run at each size.
 --   laws   == Laws q for every field size q
 -- Assumes nothing.
 use mathlib.Core.Path.{_≡_}
@@ -6,7 +6,8 @@ use Prim.Native.Nat.{ℕ, _<_}
 use lib.Dec.{T}
 use Rattle.basics.specs.laws.Member.{forEach}
 use Rattle.basics.specs.laws.Test.{Test, equal, below, always, _⊛_, unless-zero, every, everyPair, everyTriple}
-use Rattle.field.specs.Field.{fieldSizes, isFieldSize, add, multiply, negate, invert, inverseFrom}
+use Rattle.field.specs.Polynomial.{times, remainder}
+use Rattle.field.specs.Field.{fieldSizes, isFieldSize, isPolynomial, add, multiply, negate, invert, leastFrom}
 use Rattle.field.specs.FieldLaws.{Laws}
 
 -- the test over all elements below q
@@ -51,5 +52,5 @@ lawsTest q =
     (λ a. unless-zero a (multiply q a (invert q a) ≡ 1) (equal (multiply q a (invert q a)) 1)) q
 
 pub laws : (q : ℕ) → T (isFieldSize q) → Laws q
-unfolding isFieldSize lawsTest add multiply negate invert inverseFrom
+unfolding isFieldSize lawsTest isPolynomial times remainder add multiply negate invert leastFrom
 laws = forEach Laws lawsTest fieldSizes .shows tt

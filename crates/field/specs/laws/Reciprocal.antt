@@ -1,4 +1,5 @@
--- The remainder by q without a division: a computed test over the four field sizes; no part of the meaning.
+-- The remainder by q without a division: computed tests over the field sizes; no part of the meaning.
+--   in-two           == modulo 2 a product is that of the bits, and a sum is taken bit by bit
 --   quotient         == below q·q the reciprocal of q, 256 divided by q and rounded up, gives the quotient by q
 --   Reciprocal q x r == what the code asks of x and the reciprocal r, and the remainder that it finds
 --   by-reciprocal    == all of it, for x below q·q
@@ -8,11 +9,18 @@ use mathlib.Core.Path.{_≡_, ap, _∙_}
 use Prim.Native.Nat.{ℕ, suc, _+_, _*_, _-_, _/_, _%_, _<_, _≤_}
 use native.Mathlib.Nat.{mul-le-mul, mul-le-mul-left, mul-le-mul-right, div-le-self, div-add-mod'}
 use native.Mathlib.Omega.{arith}
+use lib.Bits.{bitAnd, bitXor}
 use lib.Dec.{T}
 use Rattle.basics.specs.laws.Member.{forEach}
-use Rattle.basics.specs.laws.Test.{equal, every}
-use Rattle.field.specs.Field.{fieldSizes, isFieldSize}
+use Rattle.basics.specs.laws.Test.{equal, every, everyTriple}
+use Rattle.field.specs.Field.{fieldSizes, isFieldSize, isPolynomial, add, multiply}
 use Rattle.field.specs.laws.Small.{size-small}
+
+pub in-two : (a : ℕ) → a < 2 → (c : ℕ) → c < 2 → (b : ℕ) → b < 2 → bitXor a (bitAnd c b) ≡ add 2 a (multiply 2 c b)
+unfolding isPolynomial add multiply
+in-two =
+    everyTriple 2 (λ a c b. bitXor a (bitAnd c b) ≡ add 2 a (multiply 2 c b))
+    (λ a c b. equal (bitXor a (bitAnd c b)) (add 2 a (multiply 2 c b))) .shows tt
 
 quotient : (q : ℕ) → T (isFieldSize q) → (x : ℕ) → x < q * q → x * (255 / q + 1) / 256 ≡ x / q
 unfolding isFieldSize

@@ -29,7 +29,7 @@ use Rattle.linear.specs.laws.ReducedRows.{rows-sized}
 use Rattle.linear.specs.laws.SameMatrix.{reducedRows-again}
 use Rattle.reduction.specs.laws.Leads.{leads-known}
 use Rattle.reduction.specs.Padded.{padded}
-use Rattle.reduction.specs.laws.Parts.{rows-front}
+use Rattle.rows.specs.laws.Puts.{rows-front}
 use Rattle.reduction.specs.laws.Steps.{leads}
 use Rattle.receiver.specs.Receiver.{used, heldRows, holding, isZero, takenIn, takenAs}
 use Rattle.receiver.specs.laws.Sound.{Sound, used-fit}

@@ -25,7 +25,7 @@ use Rattle.linear.specs.laws.FlatRows.{rows-valid}
 use Rattle.linear.specs.laws.ReducedOf.{reducedRows-kept, reducedOf-reduced, dimension-le}
 use Rattle.linear.specs.laws.ReducedRows.{rows-sized}
 use Rattle.reduction.specs.Padded.{padded}
-use Rattle.reduction.specs.laws.Parts.{leads-at}
+use Rattle.reduction.specs.laws.LeadsRead.{leads-at}
 use Rattle.reduction.specs.laws.Steps.{leads}
 
 module _ (q n r : ℕ) (input : List ℕ) (field : T (isFieldSize q)) (sized : length input ≡ r * n) (below : T (entriesBelow q input)) where

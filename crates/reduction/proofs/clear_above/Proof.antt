@@ -12,7 +12,7 @@ use Rattle.linear.specs.Eliminate.{leadOf, eliminate}
 use Rattle.linear.specs.laws.FlatRows.{rows-each}
 use Rattle.linear.specs.laws.RowLead.{leadOf-le}
 use Rattle.rows.specs.laws.Steps.{part, put}
-use Rattle.reduction.specs.laws.Parts.{lead-read}
+use Rattle.reduction.specs.laws.LeadsRead.{lead-read}
 use Rattle.reduction.specs.laws.ClearAbove.{Clearing, clearing-start, clearing-rest, clearing-more, clearing-stop, clearing-end}
 use Rattle.reduction.proofs.clear_above.Statement.{statement}
 use Rattle.reduction.proofs.clear_above.Tie as tie

@@ -12,7 +12,7 @@ use Rattle.linear.specs.laws.FlatMatrix.{rows-length}
 use Rattle.linear.specs.laws.RowLead.{leadOf-le}
 use Rattle.rows.specs.laws.Steps.{put}
 use Rattle.reduction.specs.laws.Steps.{leads}
-use Rattle.reduction.specs.laws.Parts.{put-length}
+use Rattle.rows.specs.laws.Puts.{put-length}
 use Rattle.reduction.specs.laws.InsertResidue.{residue-is-row, monic-is-row, left-part, left-lead, insert-same, scaled-is}
 use Rattle.reduction.specs.laws.InsertResidue.{scaled-rows, scaled-part, scaled-lead, among-result, one-more, insert-among}
 use borrow.Author.Needs.{needs}

@@ -14,7 +14,8 @@ use Rattle.linear.specs.laws.InsertMany.{Kept}
 use Rattle.linear.specs.Span.{rowsOf}
 use Rattle.rows.specs.laws.Steps.{part, put}
 use Rattle.reduction.specs.laws.Steps.{leads}
-use Rattle.reduction.specs.laws.Parts.{lead-read, pasted}
+use Rattle.rows.specs.laws.Puts.{pasted}
+use Rattle.reduction.specs.laws.LeadsRead.{lead-read}
 use Rattle.reduction.specs.laws.Leads.{lead-inside}
 use Rattle.reduction.specs.laws.Residue.{Eliminating, eliminating-none, eliminating-start, first-row, started-rows, started-fits}
 use Rattle.reduction.specs.laws.Residue.{started-put, eliminating-length, eliminating-part, eliminating-row, eliminating-more}

@@ -25,7 +25,7 @@ use Rattle.matrix.specs.laws.Lead.{lead-before}
 use Rattle.linear.specs.laws.ReducedRows.{rows-sized}
 use Rattle.linear.specs.laws.RowLead.{leadOf-le}
 use Rattle.reduction.specs.Padded.{padded}
-use Rattle.reduction.specs.laws.Parts.{part-put, rows-put, after-put, put-put}
+use Rattle.rows.specs.laws.Puts.{part-put, rows-put, after-put, put-put}
 use Rattle.reduction.specs.laws.PutAmong.{putAmong-length}
 use Rattle.rows.specs.laws.Steps.{part, put}
 

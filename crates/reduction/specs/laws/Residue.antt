@@ -19,7 +19,7 @@ use Rattle.linear.specs.Eliminate.{eliminate, residue}
 use Rattle.linear.specs.laws.Elimination.{eliminate-row}
 use Rattle.linear.specs.laws.FlatRows.{rowsFrom, rows-all, rows-next, rows-none, rows-each}
 use Rattle.rows.specs.laws.Steps.{part, put}
-use Rattle.reduction.specs.laws.Parts.{put-length, part-put, before-put, rows-put, put-put}
+use Rattle.rows.specs.laws.Puts.{put-length, part-put, before-put, rows-put, put-put}
 use Rattle.rows.specs.laws.Write.{put-same}
 
 pub record Eliminating (q n d : ℕ) (m v : List ℕ) (i : ℕ) (now : List ℕ) : Type 0 where

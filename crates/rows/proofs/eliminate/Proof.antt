@@ -5,7 +5,6 @@ use native.Mathlib.Omega.{arith}
 use lib.ListN.{getD}
 use Rattle.field.specs.laws.Decide.{laws}
 use Rattle.field.specs.Field.{negate}
-use Rattle.field.specs.laws.InField.{in-field}
 use Rattle.linear.specs.Eliminate.{leadOf, eliminate}
 use Rattle.linear.specs.laws.Entries.{row-below}
 use Rattle.linear.specs.laws.NoChange.{eliminate-nothing}
@@ -23,6 +22,11 @@ entry c =
     let a = c .args in
     sym (part-read (a .n) (a .to) (a .m .now) (a .p) (c .pre .0 .1)) ∙ ap (λ j. getD (part (a .n) (a .to) (a .m .now)) j 0) (c .pre .1 .2)
 
+below : (c : tie.Start) → getD (c .args .m .now) (c .args .to + c .args .p) 0 < c .args .q
+below c =
+    let a = c .args in
+    rw (entry c) (row-below (a .q) (laws (a .q) (c .pre .0 .0)) (a .n) (c .pre .0 .3) _)
+
 add-entry : tie.Need-add-entry
 add-entry c = search needs
 
@@ -30,7 +34,9 @@ slice-read-entry : tie.Need-slice-read-entry
 slice-read-entry c = search needs
 
 negate-requires : tie.Need-negate-requires
-negate-requires c κs = search needs
+negate-requires c κs =
+    let b = c .before .before .before in
+    (b .pre .0 .0, below b)
 
 add-scaled-requires : tie.Need-add-scaled-requires
 add-scaled-requires c κs =
@@ -38,10 +44,9 @@ add-scaled-requires c κs =
     let a = b .args in
     let p = b .pre .0 in
     let law = laws (a .q) (p .0) in
-    let factor = c .before .negate .ensures ∙ in-field (a .q) _ (p .0) ∙ ap (negate (a .q)) (entry b) in
-    let below : getD (a .m .now) (a .to + a .p) 0 < a .q = rw (entry b) (row-below (a .q) law (a .n) (p .3) _) in
+    let factor = c .before .negate .ensures ∙ ap (negate (a .q)) (entry b) in
     let negative : c .before .negate .result < a .q = rw factor (law .negate-below _ (row-below (a .q) law (a .n) (p .3) _)) in
-    ((p .0, omega (arith, below, negative), p .2, p .3, p .4), (b .pre .1 .0, b .pre .1 .1))
+    ((p .0, omega (arith, below b, negative), p .2, p .3, p .4), (b .pre .1 .0, b .pre .1 .1))
 
 same-length : tie.Need-same-length
 same-length c = search needs
@@ -51,7 +56,7 @@ unfolding eliminate plusMultiple
 returns c =
     let b = c .before .before .before .before .before .before .before .before in
     let a = b .args in
-    let factor = c .before .before .before .before .negate .ensures ∙ in-field (a .q) _ (b .pre .0 .0) ∙ ap (negate (a .q)) (entry b) in
+    let factor = c .before .before .before .before .negate .ensures ∙ ap (negate (a .q)) (entry b) in
     let r = part (a .n) (a .from) (a .m .now) in
     let v = part (a .n) (a .to) (a .m .now) in
     c .before .before .add-scaled .ensures ∙ ap (λ x. put (a .n) (a .to) (plusMultiple (a .q) (a .n) x r v) (a .m .now)) factor

@@ -1,147 +1,90 @@
--- `rows::enter` meets its contract: the first j entries of the row, less the multiple, are written.
-use mathlib.Core.Path.{_≡_, ap, ap₂, sym, _∙_}
-use mathlib.Core.Logic.{inl}
-use Prim.Native.Nat.{_+_, _-_, _≤_}
-use native.Mathlib.Nat.{zero-add}
-use native.Mathlib.Numerals.{add-one}
+-- `rows::enter` meets its contract: the factor is the negative of the row's entry at the lead, and the rest is that of the kind of field.
+use mathlib.Core.Path.{_≡_, ap, sym, _∙_}
+use Prim.Native.Nat.{_<_}
 use native.Mathlib.Omega.{arith}
-use lib.ListN.{length, getD, set, length-set}
+use lib.ListN.{getD}
+use Rattle.basics.specs.laws.Choice.{holds}
+use Rattle.field.specs.Field.{negate}
 use Rattle.field.specs.laws.Decide.{laws}
-use Rattle.field.specs.Field.{add, multiply, negate}
-use Rattle.field.specs.laws.InField.{in-field}
 use Rattle.linear.specs.Eliminate.{leadOf, eliminate}
 use Rattle.linear.specs.laws.Entries.{row-below}
-use Rattle.rows.specs.laws.AddScaled.{entered, entered-none, entered-apart, entered-more, entered-all, sum-length, sum-at}
 use Rattle.rows.specs.laws.Steps.{part, put, plusMultiple}
+use borrow.Author.Needs.{needs}
 use Rattle.rows.proofs.enter.Statement.{statement}
 use Rattle.rows.proofs.enter.Tie as tie
 
-abbrev Inv-loop : tie.InvT-loop
-Inv-loop q n p row m₀ to c j₀ m j =
-    (j ≤ n) × (length m ≡ length m₀) × (m ≡ entered n to (plusMultiple q n c (part n 0 m₀) row) m₀ j)
+shared-slice-read-negate : tie.Need-shared-slice-read-negate
+shared-slice-read-negate c = let s = c .before .before .before in omega (arith, s .pre .0 .1, s .pre .0 .2 .0)
 
-abbrev μ-loop : tie.MeasureT-loop
-μ-loop q n p row m₀ to c j₀ m j = n - j
+negate-requires : tie.Need-negate-requires
+negate-requires c κs =
+    let s = c .before .before .before in
+    let a = s .args in
+    (s .pre .0 .0, row-below (a .q) (laws (a .q) (s .pre .0 .0)) (a .n) (s .pre .0 .2) _)
 
-shared-slice-read-negate : tie.Need-shared-slice-read-negate Inv-loop μ-loop
-shared-slice-read-negate c = let b = c .before .before .before in omega (arith, b .pre .0 .1, b .pre .0 .2 .0)
-
-negate-requires : tie.Need-negate-requires Inv-loop μ-loop
-negate-requires c κs = tt
-
-loop-holds : tie.Need-loop-holds Inv-loop μ-loop
-loop-holds c =
-    let a = c .before .before .before .before .args in
-    (omega arith, omega arith, entered-none (a .n) (a .to) (a .m .now) (a .m .now))
-
--- the factor is the negative of the row's entry at the lead
-factor : (c : tie.After-negate Inv-loop μ-loop) →
+-- the factor: what it is, and that it is an element
+factor : (c : tie.After-negate) →
     let a = c .before .before .before .before .args in
     c .negate .result ≡ negate (a .q) (getD (a .row .now) (leadOf (a .n) (part (a .n) 0 (a .m .now))) 0)
 factor c =
-    let b = c .before .before .before .before in
-    let a = b .args in
-    c .negate .ensures ∙ in-field (a .q) _ (b .pre .0 .0) ∙ ap (λ x. negate (a .q) (getD (a .row .now) x 0)) (b .pre .1)
+    let s = c .before .before .before .before in
+    let a = s .args in
+    c .negate .ensures ∙ ap (λ x. negate (a .q) (getD (a .row .now) x 0)) (s .pre .1)
 
--- the first row is as it was
-first : (c : tie.In-loop Inv-loop μ-loop) →
-    let l = c .before in
-    let a = l .before .before .before .before .before .args in
-    getD (l .loop .m) (l .loop .j) 0 ≡ getD (part (a .n) 0 (a .m .now)) (l .loop .j) 0
-first c =
-    let l = c .before in
-    let b = l .before .before .before .before .before in
-    let a = b .args in
-    ap₂ (λ x y. getD x y 0) (l .loop .inv .2) (sym (zero-add (l .loop .j)))
-    ∙ entered-apart (a .n) (a .to) (plusMultiple (a .q) (a .n) (l .before .negate .result) (part (a .n) 0 (a .m .now)) (a .row .now))
-    (a .m .now)
-    (sum-length _ _ _ _ _) (b .pre .0 .5) (l .loop .j) (c .loop-test .taken) 0 (inl (omega (arith, b .pre .0 .4)))
+element : (c : tie.After-negate) → c .negate .result < c .before .before .before .before .args .q
+element c =
+    let s = c .before .before .before .before in
+    let a = s .args in
+    let law = laws (a .q) (s .pre .0 .0) in
+    rw (factor c) (law .negate-below _ (row-below (a .q) law (a .n) (s .pre .0 .2) _))
 
-shared-slice-read-add-product : tie.Need-shared-slice-read-add-product Inv-loop μ-loop
-shared-slice-read-add-product c =
-    let l = c .before .before in
-    omega (arith, c .before .loop-test .taken, l .before .before .before .before .before .pre .0 .2 .0)
+is-polynomial-requires : tie.Need-is-polynomial-requires
+is-polynomial-requires c κs = c .before .before .before .before .pre .0 .0
 
-slice-read-add-product : tie.Need-slice-read-add-product Inv-loop μ-loop
-slice-read-add-product c =
-    let l = c .before .before .before in
-    let b = l .before .before .before .before .before in
-    omega (arith, c .before .before .loop-test .taken, l .loop .inv .1, b .pre .0 .4, b .pre .0 .5)
+enter-polynomials-requires : tie.Need-enter-polynomials-requires
+enter-polynomials-requires c κs =
+    let i = c .before .before in
+    let p = i .before .before .before .before .before .pre .0 in
+    ((p .0, element (i .before), p .2, p .3, p .4, p .5), holds _ (sym (i .is-polynomial .ensures) ∙ c .before .if1 .taken))
 
-add-product-requires : tie.Need-add-product-requires Inv-loop μ-loop
-add-product-requires c κs =
-    let l = c .before .before .before in
-    let b = l .before .before .before .before .before in
-    let a = b .args in
-    let law = laws (a .q) (b .pre .0 .0) in (
-      b .pre .0 .0,
-      row-below (a .q) law (a .n) (b .pre .0 .2) (l .loop .j),
-      rw (factor (l .before)) (law .negate-below _ (row-below (a .q) law (a .n) (b .pre .0 .2) _)),
-      rw (first (c .before .before)) (row-below (a .q) law (a .n) (b .pre .0 .3) (l .loop .j)),
-    )
+enter-numbers-requires : tie.Need-enter-numbers-requires
+enter-numbers-requires c κs =
+    let i = c .before .before in
+    let p = i .before .before .before .before .before .pre .0 in
+    ((p .0, element (i .before), p .2, p .3, p .4, p .5), sym (i .is-polynomial .ensures) ∙ c .before .if1 .left)
 
-add-m : tie.Need-add-m Inv-loop μ-loop
-add-m c = omega arith
+same-length : tie.Need-same-length
+same-length c = search needs
 
-slice-write-m : tie.Need-slice-write-m Inv-loop μ-loop
-slice-write-m c = omega arith
-
-add-j : tie.Need-add-j Inv-loop μ-loop
-add-j c = omega arith
-
-loop-less : tie.Need-loop-less Inv-loop μ-loop
-loop-less c = omega arith
-
-loop-again : tie.Need-loop-again Inv-loop μ-loop
-loop-again c =
-    let l = c .before .before .before .before in
-    let b = l .before .before .before .before .before in
-    let a = b .args in
-    let f = l .before .negate .result in
-    let w = plusMultiple (a .q) (a .n) f (part (a .n) 0 (a .m .now)) (a .row .now) in
-    let new : c .add-product .result ≡ getD w (l .loop .j) 0 =
-    c .add-product .ensures
-    ∙ ap (λ x. add (a .q) (getD (a .row .now) (l .loop .j) 0) (multiply (a .q) f x)) (first (c .before .before .before))
-    ∙ sum-at (a .q) (a .n) f _ _ (l .loop .j) (omega arith)
-    in (
-      omega arith,
-      simp length-set (l .loop .inv .1),
-      rw add-one (ap₂ (λ x y. set x (a .to + l .loop .j) y) (l .loop .inv .2) new
-          ∙ entered-more (a .n) (a .to) w (a .m .now) (sum-length _ _ _ _ _) (b .pre .0 .5) (l .loop .j) (omega arith)),
-    )
-
-same-length : tie.Need-same-length Inv-loop μ-loop
-same-length c = c .before .loop .inv .1
-
-returns : tie.Need-returns Inv-loop μ-loop
+-- the row plus the multiple with that factor is the row eliminated
+entered : (c : tie.After-negate) →
+    let a = c .before .before .before .before .args in
+    put (a .n) (a .to) (plusMultiple (a .q) (a .n) (c .negate .result) (part (a .n) 0 (a .m .now)) (a .row .now)) (a .m .now)
+    ≡ put (a .n) (a .to) (eliminate (a .q) (a .n) (part (a .n) 0 (a .m .now)) (a .row .now)) (a .m .now)
 unfolding eliminate plusMultiple
-returns c =
-    let l = c .before in
-    let b = l .before .before .before .before .before in
-    let a = b .args in
-    let e : l .loop .j ≡ a .n = omega arith in
-    l .loop .inv .2
-    ∙ ap (entered (a .n) (a .to) _ (a .m .now)) e
-    ∙ entered-all (a .n) (a .to) _ (a .m .now)
-    (sum-length (a .q) (a .n) (l .before .negate .result) (part (a .n) 0 (a .m .now)) (a .row .now)) (b .pre .0 .5)
-    ∙ ap (λ x. put (a .n) (a .to) (plusMultiple (a .q) (a .n) x (part (a .n) 0 (a .m .now)) (a .row .now)) (a .m .now)) (factor (l .before))
+entered c =
+    let a = c .before .before .before .before .args in
+    ap (λ x. put (a .n) (a .to) (plusMultiple (a .q) (a .n) x (part (a .n) 0 (a .m .now)) (a .row .now)) (a .m .now)) (factor c)
+
+returns : tie.Need-returns
+returns c = c .before .before .enter-polynomials .ensures ∙ entered (c .before .before .before .before .before .before)
+
+same-length-2 : tie.Need-same-length-2
+same-length-2 c = search needs
+
+returns-2 : tie.Need-returns-2
+returns-2 c = c .before .before .enter-numbers .ensures ∙ entered (c .before .before .before .before .before .before)
 
 pub enter-spec : {M : Type 1} → statement M
 enter-spec =
     tie.close
     (tie.spec
-    Inv-loop
-    μ-loop
     shared-slice-read-negate
     negate-requires
-    loop-holds
-    shared-slice-read-add-product
-    slice-read-add-product
-    add-product-requires
-    add-m
-    slice-write-m
-    add-j
-    loop-less
-    loop-again
+    is-polynomial-requires
+    enter-polynomials-requires
+    enter-numbers-requires
     same-length
-    returns)
+    returns
+    same-length-2
+    returns-2)

@@ -5,7 +5,6 @@ use native.Mathlib.Omega.{arith}
 use lib.ListN.{getD}
 use Rattle.field.specs.laws.Decide.{laws}
 use Rattle.field.specs.Field.{invert}
-use Rattle.field.specs.laws.InField.{in-field}
 use Rattle.linear.specs.Eliminate.{leadOf, monic}
 use Rattle.linear.specs.laws.Entries.{row-below}
 use Rattle.rows.specs.laws.Steps.{multiple}
@@ -21,13 +20,16 @@ factor : (c : tie.After-invert) →
 factor c =
     let b = c .before .before .before .before in
     let a = b .args in
-    c .invert .ensures ∙ in-field (a .q) _ (b .pre .0) ∙ ap (λ x. invert (a .q) (getD (a .v .now) x 0)) (b .pre .2)
+    c .invert .ensures ∙ ap (λ x. invert (a .q) (getD (a .v .now) x 0)) (b .pre .2)
 
 slice-read-pivot : tie.Need-slice-read-pivot
 slice-read-pivot c = search needs
 
 invert-requires : tie.Need-invert-requires
-invert-requires c κs = search needs
+invert-requires c κs =
+    let b = c .before .before .before in
+    let a = b .args in
+    (b .pre .0, row-below (a .q) (laws (a .q) (b .pre .0)) (a .n) (b .pre .1) (a .p))
 
 scale-requires : tie.Need-scale-requires
 scale-requires c κs =

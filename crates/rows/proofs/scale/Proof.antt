@@ -1,98 +1,70 @@
--- `rows::scale` meets its contract: the first j entries are the product's, the others as they were.
-use mathlib.Core.Path.{_≡_, ap, ap₂, _∙_}
-use mathlib.Core.List.{_++_}
-use Prim.Native.Nat.{_-_, _≤_, _<_}
+-- `rows::scale` meets its contract: by that of numbers, or by the sum of the row and one more multiple.
+use mathlib.Core.Path.{refl, subst, sym, _∙_}
+use mathlib.Core.Logic.{inr}
+use Prim.Native.Nat.{_+_, _≤_}
 use native.Mathlib.Omega.{arith}
-use lib.ListN.{length, getD, drop, set, length-set}
-use Rattle.basics.specs.Table.{tabulate}
-use Rattle.basics.specs.laws.TableWrite.{write-none, write-read, write-more, write-all}
+use lib.Dec.{T}
+use lib.ListN.{length}
+use Rattle.basics.specs.laws.Choice.{holds}
+use Rattle.field.specs.Field.{isPolynomial}
 use Rattle.field.specs.laws.Decide.{laws}
-use Rattle.field.specs.Field.{add, multiply}
-use Rattle.linear.specs.laws.Entries.{row-below}
-use Rattle.rows.specs.laws.Monic.{only-multiple}
-use Rattle.rows.specs.laws.Steps.{multiple, multipleAt}
+use Rattle.field.specs.laws.Polynomials.{one-more}
+use Rattle.linear.specs.Span.{Row}
+use Rattle.rows.specs.laws.Scaled.{whole, scaled-sum}
+use borrow.Author.Needs.{needs}
 use Rattle.rows.proofs.scale.Statement.{statement}
 use Rattle.rows.proofs.scale.Tie as tie
 
-abbrev Inv-loop : tie.InvT-loop
-Inv-loop q n c v₀ j₀ v j = (j ≤ n) × (length v ≡ n) × (v ≡ tabulate (multipleAt q c v₀) 0 j ++ drop j v₀)
+is-polynomial-requires : tie.Need-is-polynomial-requires
+is-polynomial-requires c κs = c .before .pre .0
 
-abbrev μ-loop : tie.MeasureT-loop
-μ-loop q n c v₀ j₀ v j = n - j
+polynomial : (c : tie.Then1) → T (isPolynomial (c .before .before .before .args .q))
+polynomial c = holds _ (sym (c .before .is-polynomial .ensures) ∙ c .if1 .taken)
 
-loop-holds : tie.Need-loop-holds Inv-loop μ-loop
-loop-holds c = (omega arith, c .before .pre .2 .0, write-none _ _)
-
--- the entry that the loop has come to is still the row's own
-old : (c : tie.In-loop Inv-loop μ-loop) →
-    let l = c .before in
-    getD (l .loop .v) (l .loop .j) 0 ≡ getD (l .before .before .args .v .now) (l .loop .j) 0
-old c =
-    let l = c .before in
-    let a = l .before .before .args in
-    ap (λ x. getD x (l .loop .j) 0) (l .loop .inv .2)
-    ∙ write-read (multipleAt (a .q) (a .c) (a .v .now)) (a .v .now) (l .loop .j) (omega arith)
-
-slice-read-add-product : tie.Need-slice-read-add-product Inv-loop μ-loop
-slice-read-add-product c = omega arith
-
-add-product-requires : tie.Need-add-product-requires Inv-loop μ-loop
-add-product-requires c κs =
-    let b = c .before .before .before .before in
-    let a = b .args in
-    let entry = row-below (a .q) (laws (a .q) (b .pre .0)) (a .n) (b .pre .2) (c .before .before .loop .j) in
-    (b .pre .0, omega (arith, b .pre .1), b .pre .1, rw (old (c .before)) entry)
-
-slice-write-v : tie.Need-slice-write-v Inv-loop μ-loop
-slice-write-v c = omega arith
-
-add-j : tie.Need-add-j Inv-loop μ-loop
-add-j c = omega arith
-
-loop-less : tie.Need-loop-less Inv-loop μ-loop
-loop-less c = omega arith
-
-loop-again : tie.Need-loop-again Inv-loop μ-loop
-loop-again c =
-    let l = c .before .before .before in
-    let b = l .before .before in
-    let a = b .args in
-    let law = laws (a .q) (b .pre .0) in
-    let f = multipleAt (a .q) (a .c) (a .v .now) in
-    let h : l .loop .j < length (a .v .now) = omega arith in
-    let new : c .add-product .result ≡ f (l .loop .j) =
-    c .add-product .ensures
-    ∙ ap (λ x. add (a .q) 0 (multiply (a .q) (a .c) x)) (old (c .before .before))
-    ∙ only-multiple (a .q) law (a .c) _ (b .pre .1) (row-below (a .q) law (a .n) (b .pre .2) (l .loop .j))
-    in (
-      omega arith,
-      simp length-set (l .loop .inv .1),
-      ap₂ (λ x y. set x (l .loop .j) y) (l .loop .inv .2) new ∙ write-more f (a .v .now) (l .loop .j) h,
+add-polynomials-requires : tie.Need-add-polynomials-requires
+add-polynomials-requires c κs =
+    let t = c .before in
+    let s = t .before .before .before in
+    let a = s .args in
+    let same = whole (a .q) (a .n) (a .c) (laws (a .q) (s .pre .0)) (polynomial t) (s .pre .1) (a .v .now) (s .pre .2) in
+    let row = subst (Row (a .q) (a .n)) (sym same) (s .pre .2) in
+    let sized : 0 + a .n ≤ length (a .v .now) = omega (arith, s .pre .2 .0) in (
+      (s .pre .0, one-more (a .q) (polynomial t) (a .c) (s .pre .1) (a .c) (s .pre .1) .0, row, row, inr refl),
+      (sized, sized, polynomial t),
     )
 
-same-length : tie.Need-same-length Inv-loop μ-loop
-same-length c = omega arith
+scale-numbers-requires : tie.Need-scale-numbers-requires
+scale-numbers-requires c κs =
+    let i = c .before .before in
+    let s = i .before .before in
+    (s .pre .0, s .pre .1, s .pre .2, sym (i .is-polynomial .ensures) ∙ c .before .if1 .left)
 
-returns : tie.Need-returns Inv-loop μ-loop
-unfolding multiple
+same-length : tie.Need-same-length
+same-length c = search needs
+
+returns : tie.Need-returns
 returns c =
-    let l = c .before in
-    let a = l .before .before in
-    let e : l .loop .j ≡ a .args .n = omega arith in
-    l .loop .inv .2 ∙ write-all _ _ (l .loop .j) (omega arith) ∙ ap (tabulate _ 0) e
+    let l = c .before .before in
+    let t = l .before .before in
+    let s = t .before .before .before in
+    let a = s .args in
+    l .add-polynomials .ensures
+    ∙ scaled-sum (a .q) (a .n) (a .c) (laws (a .q) (s .pre .0)) (polynomial t) (s .pre .1) (a .v .now) (s .pre .2)
+
+same-length-2 : tie.Need-same-length-2
+same-length-2 c = search needs
+
+returns-2 : tie.Need-returns-2
+returns-2 c = c .before .before .scale-numbers .ensures
 
 pub scale-spec : {M : Type 1} → statement M
 scale-spec =
     tie.close
     (tie.spec
-    Inv-loop
-    μ-loop
-    loop-holds
-    slice-read-add-product
-    add-product-requires
-    slice-write-v
-    add-j
-    loop-less
-    loop-again
+    is-polynomial-requires
+    add-polynomials-requires
+    scale-numbers-requires
     same-length
-    returns)
+    returns
+    same-length-2
+    returns-2)

@@ -1,26 +1,20 @@
--- Parts of a flat matrix, read and replaced, and the leads of its rows; no part of the meaning.
+-- Parts of a flat matrix, read and replaced; no part of the meaning.
 --   part-front, rows-front == what is read from the front of a list does not see what follows
 --   pasted         == a row copied to its place
 --   put-length     == the length stays
 --   part-put       == what was put is read
---   before-put, rows-put == what lies before it is as it was
+--   before-put, rows-put, taken-put == what lies before it is as it was
 --   after-put      == so is what lies after it
 --   put-put        == what is put last is left
---   leads-at, lead-read == the lead of row i, read from the list of leads
 -- Assumes nothing.
 use mathlib.Core.Path.{_≡_, refl, ap, ap₂, sym, _∙_}
-use mathlib.Core.List.{List, [], _∷_, _++_, append-assoc}
-use Prim.Native.Nat.{ℕ, zero, suc, _+_, _*_, _-_, _≤_, _<_}
-use native.Mathlib.Nat.{le-of-suc-le-suc, not-suc-le-zero}
+use mathlib.Core.List.{List, _∷_, _++_, append-assoc}
+use Prim.Native.Nat.{ℕ, zero, suc, _+_, _*_, _-_, _≤_}
 use native.Mathlib.Omega.{arith}
-use lib.ListN.{length, getD, take, drop, length-append, length-drop, take-append-drop}
-use lib.Seq.{length-take-le, take-at, drop-at, drop-drop, take-append-le, drop-append-le, drop-append-add, getD-take, take-length, paste}
+use lib.ListN.{length, take, drop, length-append, length-drop, take-append-drop}
+use lib.Seq.{length-take-le, take-at, drop-at, drop-drop, take-append-le, drop-append-le, drop-append-add, take-length, paste}
 use Rattle.linear.specs.Span.{rowsOf}
-use Rattle.linear.specs.Eliminate.{leadOf}
-use Rattle.linear.specs.laws.FlatMatrix.{rows-length}
-use Rattle.linear.specs.laws.FlatRows.{rows-at}
 use Rattle.rows.specs.laws.Steps.{part, put}
-use Rattle.reduction.specs.laws.Steps.{leads}
 
 pub part-front : (n at : ℕ) (front rest : List ℕ) → at + n ≤ length front → part n at (front ++ rest) ≡ part n at front
 part-front n at front rest h =
@@ -75,15 +69,3 @@ module _ (n at : ℕ) (w m : List ℕ) (lw : length w ≡ n) (fits : at + n ≤ 
 
   pub put-put : (u : List ℕ) → put n at u (put n at w m) ≡ put n at u m
   put-put u = ap₂ (λ x y. x ++ (u ++ y)) (taken-put at (omega arith)) (after-put (at + n) (omega arith))
-
-pub leads-at : (n : ℕ) (rs : List (List ℕ)) (i : ℕ) → i < length rs → getD (leads n rs) i 0 ≡ leadOf n (getD rs i [])
-unfolding leads
-leads-at n [] i h = absurd (not-suc-le-zero h)
-leads-at n (r ∷ rs) zero h = refl
-leads-at n (r ∷ rs) (suc i) h = leads-at n rs i (le-of-suc-le-suc h)
-
-pub lead-read : (n d : ℕ) (m pivots : List ℕ) → take d pivots ≡ leads n (rowsOf n d m) → (i : ℕ) → i < d
-    → getD pivots i 0 ≡ leadOf n (part n (i * n) m)
-lead-read n d m pivots e i h =
-    sym (getD-take d pivots i 0 h) ∙ ap (λ x. getD x i 0) e ∙ leads-at n (rowsOf n d m) i (omega (arith, rows-length n d m))
-    ∙ ap (leadOf n) (rows-at n m d i h)
