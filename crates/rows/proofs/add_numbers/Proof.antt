@@ -1,21 +1,19 @@
 -- `rows::add_numbers` meets its contract: the first j entries are the sum's, the others as they were.
-use mathlib.Core.Path.{_≡_, ap, ap₂, _∙_}
-use Prim.Native.Nat.{_+_, _-_, _≤_}
-use native.Mathlib.Numerals.{add-one}
+use mathlib.Core.Path.{_≡_, ap₂, _∙_}
+use mathlib.Core.Logic.{inl}
+use Prim.Native.Nat.{_+_, _-_}
 use native.Mathlib.Omega.{arith}
-use lib.ListN.{length, getD, set, length-set}
+use lib.ListN.{getD}
 use Rattle.field.specs.laws.Decide.{laws}
 use Rattle.field.specs.Field.{add, multiply}
 use Rattle.linear.specs.laws.Entries.{row-below}
-use Rattle.rows.specs.laws.Steps.{part, plusMultiple}
-use Rattle.rows.specs.laws.AddScaled.{entered, entered-none, entered-to, entered-apart, entered-more, entered-all, sum-length}
-use Rattle.rows.specs.laws.AddScaled.{sum-at}
+use Rattle.rows.specs.laws.Steps.{part}
+use Rattle.rows.specs.laws.Adding.{Adding, adding-none, adding-all, adding-to, adding-from, adding-more}
 use Rattle.rows.proofs.add_numbers.Statement.{statement}
 use Rattle.rows.proofs.add_numbers.Tie as tie
 
 abbrev Inv-loop : tie.InvT-loop
-Inv-loop q n c m₀ from to j₀ m j =
-    (j ≤ n) × (length m ≡ length m₀) × (m ≡ entered n to (plusMultiple q n c (part n from m₀) (part n to m₀)) m₀ j)
+Inv-loop q n c m₀ from to j₀ m j = Adding q n c to (part n from m₀) (part n to m₀) m₀ m j
 
 abbrev μ-loop : tie.MeasureT-loop
 μ-loop q n c m₀ from to j₀ m j = n - j
@@ -23,7 +21,8 @@ abbrev μ-loop : tie.MeasureT-loop
 loop-holds : tie.Need-loop-holds Inv-loop μ-loop
 loop-holds c =
     let a = c .before .args in
-    (omega arith, omega arith, entered-none (a .n) (a .to) (a .m .now) (a .m .now))
+    let m = a .m .now in
+    adding-none (a .q) (a .n) (a .c) (a .to) (part (a .n) (a .from) m) (part (a .n) (a .to) m) m
 
 -- the two entries that the sum is made of are still their rows' own
 summand : (c : tie.In-loop Inv-loop μ-loop) →
@@ -32,11 +31,7 @@ summand : (c : tie.In-loop Inv-loop μ-loop) →
     getD (l .loop .m) (a .to + l .loop .j) 0 ≡ getD (part (a .n) (a .to) (a .m .now)) (l .loop .j) 0
 summand c =
     let l = c .before in
-    let b = l .before .before in
-    let a = b .args in
-    ap (λ x. getD x (a .to + l .loop .j) 0) (l .loop .inv .2)
-    ∙ entered-to (a .n) (a .to) (plusMultiple (a .q) (a .n) (a .c) (part (a .n) (a .from) (a .m .now)) (part (a .n) (a .to) (a .m .now)))
-    (a .m .now) (sum-length _ _ _ _ _) (b .pre .1 .1) (l .loop .j) (c .loop-test .taken)
+    adding-to _ _ _ _ _ _ _ (l .before .before .pre .1 .1) _ _ (l .loop .inv) (c .loop-test .taken)
 
 factor : (c : tie.In-loop Inv-loop μ-loop) →
     let l = c .before in
@@ -45,11 +40,7 @@ factor : (c : tie.In-loop Inv-loop μ-loop) →
 factor c =
     let l = c .before in
     let b = l .before .before in
-    let a = b .args in
-    ap (λ x. getD x (a .from + l .loop .j) 0) (l .loop .inv .2)
-    ∙ entered-apart (a .n) (a .to) (plusMultiple (a .q) (a .n) (a .c) (part (a .n) (a .from) (a .m .now))
-    (part (a .n) (a .to) (a .m .now))) (a .m .now) (sum-length _ _ _ _
-    _) (b .pre .1 .1) (l .loop .j) (c .loop-test .taken) (a .from) (b .pre .0 .4)
+    adding-from _ _ _ _ _ _ _ (b .pre .1 .1) _ _ (l .loop .inv) (c .loop-test .taken) (b .args .from) (inl (b .pre .0 .4))
 
 add-add-product : tie.Need-add-add-product Inv-loop μ-loop
 add-add-product c = omega arith
@@ -90,20 +81,11 @@ loop-less c = omega arith
 
 loop-again : tie.Need-loop-again Inv-loop μ-loop
 loop-again c =
-    let l = c .before .before .before .before in
-    let b = l .before .before in
-    let a = b .args in
-    let w = plusMultiple (a .q) (a .n) (a .c) (part (a .n) (a .from) (a .m .now)) (part (a .n) (a .to) (a .m .now)) in
-    let new : c .add-product .result ≡ getD w (l .loop .j) 0 =
-    c .add-product .ensures
-    ∙ ap₂ (λ x y. add (a .q) x (multiply (a .q) (a .c) y)) (summand (c .before .before .before)) (factor (c .before .before .before))
-    ∙ sum-at (a .q) (a .n) (a .c) _ _ (l .loop .j) (omega arith)
-    in (
-      omega arith,
-      simp length-set (l .loop .inv .1),
-      rw add-one (ap₂ (λ x y. set x (a .to + l .loop .j) y) (l .loop .inv .2) new
-          ∙ entered-more (a .n) (a .to) w (a .m .now) (sum-length _ _ _ _ _) (b .pre .1 .1) (l .loop .j) (omega arith)),
-    )
+    let i = c .before .before .before in
+    let l = i .before in
+    let a = l .before .before .args in
+    adding-more _ _ _ _ _ _ _ (l .before .before .pre .1 .1) _ _ (l .loop .inv) (i .loop-test .taken) _
+    (c .add-product .ensures ∙ ap₂ (λ x y. add (a .q) x (multiply (a .q) (a .c) y)) (summand i) (factor i))
 
 same-length : tie.Need-same-length Inv-loop μ-loop
 same-length c = c .before .loop .inv .1
@@ -111,12 +93,7 @@ same-length c = c .before .loop .inv .1
 returns : tie.Need-returns Inv-loop μ-loop
 returns c =
     let l = c .before in
-    let b = l .before .before in
-    let a = b .args in
-    let e : l .loop .j ≡ a .n = omega arith in
-    l .loop .inv .2
-    ∙ ap (entered (a .n) (a .to) _ (a .m .now)) e
-    ∙ entered-all (a .n) (a .to) _ (a .m .now) (sum-length _ _ _ _ _) (b .pre .1 .1)
+    adding-all _ _ _ _ _ _ _ (l .before .before .pre .1 .1) _ _ (l .loop .inv) (omega arith)
 
 pub add-numbers-spec : {M : Type 1} → statement M
 add-numbers-spec =

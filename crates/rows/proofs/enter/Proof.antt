@@ -57,23 +57,23 @@ same-length : tie.Need-same-length
 same-length c = search needs
 
 -- the row plus the multiple with that factor is the row eliminated
-entered : (c : tie.After-negate) →
+as-eliminated : (c : tie.After-negate) →
     let a = c .before .before .before .before .args in
     put (a .n) (a .to) (plusMultiple (a .q) (a .n) (c .negate .result) (part (a .n) 0 (a .m .now)) (a .row .now)) (a .m .now)
     ≡ put (a .n) (a .to) (eliminate (a .q) (a .n) (part (a .n) 0 (a .m .now)) (a .row .now)) (a .m .now)
 unfolding eliminate plusMultiple
-entered c =
+as-eliminated c =
     let a = c .before .before .before .before .args in
     ap (λ x. put (a .n) (a .to) (plusMultiple (a .q) (a .n) x (part (a .n) 0 (a .m .now)) (a .row .now)) (a .m .now)) (factor c)
 
 returns : tie.Need-returns
-returns c = c .before .before .enter-polynomials .ensures ∙ entered (c .before .before .before .before .before .before)
+returns c = c .before .before .enter-polynomials .ensures ∙ as-eliminated (c .before .before .before .before .before .before)
 
 same-length-2 : tie.Need-same-length-2
 same-length-2 c = search needs
 
 returns-2 : tie.Need-returns-2
-returns-2 c = c .before .before .enter-numbers .ensures ∙ entered (c .before .before .before .before .before .before)
+returns-2 c = c .before .before .enter-numbers .ensures ∙ as-eliminated (c .before .before .before .before .before .before)
 
 pub enter-spec : {M : Type 1} → statement M
 enter-spec =
