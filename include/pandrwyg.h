@@ -10,8 +10,12 @@
  * and by t^3 + t + 1 for 8.
  *
  * Every call meets every input with a result or the number of a refusal, and always returns. Of the refusals listed at a
- * call the first that applies, in that order, is returned; 0 means done. No call keeps a pointer, allocates, or changes
- * anything but the memory it is lent. Buffers that are lent to one call must not overlap.
+ * call the first that applies, in that order, is returned; 0 means done. A refusal that is passed over leaves something
+ * that looks like a lawful record, so compilers warn where a call's result is not used.
+ *
+ * What the header asks: C99 or C++11; that buffers which are lent to one call do not overlap; that `indexes` is aligned as
+ * a uint64_t is. No call keeps a pointer, keeps anything between calls, allocates, or changes anything but the memory it is
+ * lent, so threads and interrupts may call at the same time, each with buffers of its own.
  *
  * A null pointer is met too: with length 0 it counts as an empty buffer, and with another length, as does a length of more
  * than PTRDIFF_MAX bytes, as a buffer of a wrong length, which the library refuses in its place.
@@ -30,20 +34,56 @@ extern "C" {
 #define PANDRWYG_EXTENDED 1
 #define PANDRWYG_FERRERS 2
 
-/* The refusals. */
-#define PANDRWYG_FIELD_SIZE 1 /* q is none of 2, 3, 4, 5, 7, 8 */
-#define PANDRWYG_SHAPE 2      /* n is outside 1 to 16, or k exceeds n */
-#define PANDRWYG_COUNT 3      /* N exceeds 2^64 - 1 */
-#define PANDRWYG_LENGTH 4     /* a buffer does not have exactly the bytes that it must have */
-#define PANDRWYG_INDEX 5      /* the index is N or more */
-#define PANDRWYG_ENTRY 6      /* an entry is q or more */
-#define PANDRWYG_TOO_FEW 8    /* the rows span fewer than k dimensions */
-#define PANDRWYG_TOO_MANY 9   /* the rows span more than k dimensions */
-#define PANDRWYG_NUMBERING 10 /* the numbering is neither 1 nor 2 */
-#define PANDRWYG_ROW_COUNT 13 /* more than 64 rows */
+/* What a call returns: 0, or a refusal. Those that no call below gives are of the library's other calls and programs. */
+#define PANDRWYG_DONE 0
+#define PANDRWYG_FIELD_SIZE 1  /* q is none of 2, 3, 4, 5, 7, 8 */
+#define PANDRWYG_SHAPE 2       /* n is outside 1 to 16, or k exceeds n */
+#define PANDRWYG_COUNT 3       /* N exceeds 2^64 - 1 */
+#define PANDRWYG_LENGTH 4      /* a buffer does not have exactly the bytes that it must have */
+#define PANDRWYG_INDEX 5       /* the index is N or more */
+#define PANDRWYG_ENTRY 6       /* an entry is q or more */
+#define PANDRWYG_NOT_REDUCED 7 /* the matrix is not reduced */
+#define PANDRWYG_TOO_FEW 8     /* the rows span fewer than k dimensions */
+#define PANDRWYG_TOO_MANY 9    /* the rows span more than k dimensions */
+#define PANDRWYG_NUMBERING 10  /* the numbering is neither 1 nor 2 */
+#define PANDRWYG_LINE 11       /* the input is not one line q,n,k */
+#define PANDRWYG_LISTING 12    /* N exceeds 65,536 */
+#define PANDRWYG_ROW_COUNT 13  /* more than 64 rows */
+#define PANDRWYG_RECEIVER 14   /* the receiver is none that Start and Take can leave */
+#define PANDRWYG_MISMATCH 16   /* the receivers differ in q, n or k */
 
 /* The bytes of Receive's answer: the index in eight, the dimension in one, the identifying vector in two, least byte first. */
 #define PANDRWYG_ANSWER_SIZE 11
+
+#if defined(__GNUC__)
+#define PANDRWYG_USE_RESULT __attribute__((warn_unused_result))
+#else
+#define PANDRWYG_USE_RESULT
+#endif
+
+/*
+ * The library's symbols, one for each call below; a length has 64 bits on every machine. They take no null pointer and no
+ * length beyond their buffer's. The calls below, which have these symbols' arguments, keep both out: a program calls those.
+ */
+PANDRWYG_USE_RESULT
+uint32_t pandrwyg_draw_raw(uint64_t q, uint64_t n, uint64_t k, uint64_t numbering, uint64_t index,
+                           uint8_t *matrix, uint64_t length);
+PANDRWYG_USE_RESULT
+uint32_t pandrwyg_draw_batch_raw(uint64_t q, uint64_t n, uint64_t k, uint64_t numbering,
+                                 const uint64_t *indexes, uint64_t index_count,
+                                 uint8_t *matrices, uint64_t matrices_length, uint8_t *answers, uint64_t answers_length);
+PANDRWYG_USE_RESULT
+uint32_t pandrwyg_receive_raw(uint64_t q, uint64_t n, uint64_t k, uint64_t numbering, uint64_t row_count,
+                              const uint8_t *rows, uint64_t rows_length, uint8_t *answer, uint64_t answer_length);
+
+/*
+ * Whether no buffer is there: null with a length other than 0, or more bytes than any object has. A call never answers by
+ * itself then. It hands on a byte of its own with a length that is wrong, so that the library refuses, in its own order.
+ */
+static inline int pandrwyg_is_unusable(const void *buffer, size_t length)
+{
+    return length > PTRDIFF_MAX || (!buffer && length != 0);
+}
 
 /*
  * Draw: writes the reduced matrix with the given index.
@@ -51,8 +91,15 @@ extern "C" {
  *   refuses: 1, 2, 3, 10, 4 (the buffer is not exactly k*n bytes), 5
  *   leaves:  done, every byte of the buffer holds its entry of the matrix; refused, the buffer is unchanged
  */
-uint32_t pandrwyg_draw(uint64_t q, uint64_t n, uint64_t k, uint64_t numbering, uint64_t index,
-                       uint8_t *matrix, size_t length);
+PANDRWYG_USE_RESULT
+static inline uint32_t pandrwyg_draw(uint64_t q, uint64_t n, uint64_t k, uint64_t numbering, uint64_t index,
+                                     uint8_t *matrix, size_t length)
+{
+    uint8_t no_matrix = 0;
+    if (pandrwyg_is_unusable(matrix, length))
+        return pandrwyg_draw_raw(q, n, k, numbering, index, &no_matrix, k == 0 ? 1 : 0);
+    return pandrwyg_draw_raw(q, n, k, numbering, index, matrix ? matrix : &no_matrix, length);
+}
 
 /*
  * Draw a batch: writes the reduced matrix of each index of a list, what Draw alone writes for it.
@@ -63,9 +110,22 @@ uint32_t pandrwyg_draw(uint64_t q, uint64_t n, uint64_t k, uint64_t numbering, u
  *            other an answer of 5, and its k*n bytes unchanged; refused, both buffers are unchanged. The indexes are never
  *            changed
  */
-uint32_t pandrwyg_draw_batch(uint64_t q, uint64_t n, uint64_t k, uint64_t numbering,
-                             const uint64_t *indexes, size_t index_count, uint8_t *matrices, size_t matrices_length,
-                             uint8_t *answers, size_t answers_length);
+PANDRWYG_USE_RESULT
+static inline uint32_t pandrwyg_draw_batch(uint64_t q, uint64_t n, uint64_t k, uint64_t numbering,
+                                           const uint64_t *indexes, size_t index_count,
+                                           uint8_t *matrices, size_t matrices_length,
+                                           uint8_t *answers, size_t answers_length)
+{
+    uint64_t no_index = 0;
+    uint8_t no_matrix = 0, no_answer = 0;
+    /* A list of no indexes needs no answers, so one answer is wrong. */
+    if (index_count > PTRDIFF_MAX / 8 || pandrwyg_is_unusable(indexes, index_count) ||
+        pandrwyg_is_unusable(matrices, matrices_length) || pandrwyg_is_unusable(answers, answers_length))
+        return pandrwyg_draw_batch_raw(q, n, k, numbering, &no_index, 0, &no_matrix, 0, &no_answer, 1);
+    return pandrwyg_draw_batch_raw(q, n, k, numbering, indexes ? indexes : &no_index, index_count,
+                                   matrices ? matrices : &no_matrix, matrices_length,
+                                   answers ? answers : &no_answer, answers_length);
+}
 
 /*
  * Receive: writes the index of the space that the rows span.
@@ -76,8 +136,22 @@ uint32_t pandrwyg_draw_batch(uint64_t q, uint64_t n, uint64_t k, uint64_t number
  *            8 or 9, index 0, and the dimension and the vector of the span; refused otherwise, the answer is unchanged.
  *            The rows are never changed
  */
-uint32_t pandrwyg_receive(uint64_t q, uint64_t n, uint64_t k, uint64_t numbering, uint64_t row_count,
-                          const uint8_t *rows, size_t rows_length, uint8_t *answer, size_t answer_length);
+PANDRWYG_USE_RESULT
+static inline uint32_t pandrwyg_receive(uint64_t q, uint64_t n, uint64_t k, uint64_t numbering, uint64_t row_count,
+                                        const uint8_t *rows, size_t rows_length, uint8_t *answer, size_t answer_length)
+{
+    uint8_t no_row = 0, no_answer = 0;
+    if (pandrwyg_is_unusable(rows, rows_length)) {
+        rows = &no_row;
+        rows_length = row_count == 0 ? 1 : 0;
+    }
+    if (pandrwyg_is_unusable(answer, answer_length)) {
+        answer = &no_answer;
+        answer_length = 0;
+    }
+    return pandrwyg_receive_raw(q, n, k, numbering, row_count, rows ? rows : &no_row, rows_length,
+                                answer ? answer : &no_answer, answer_length);
+}
 
 /* What an answer holds after Receive was done, or was refused 8 or 9; any other refusal leaves it as it was. */
 
@@ -102,57 +176,8 @@ static inline uint8_t pandrwyg_answer_dimension(const uint8_t *answer)
  */
 static inline uint16_t pandrwyg_answer_vector(const uint8_t *answer)
 {
-    return (uint16_t)(answer[9] + 256u * answer[10]);
+    return (answer[9] + 256u * answer[10]) & 0xFFFFu;
 }
-
-/* The calls with null pointers kept out; the macros below put them in the calls' place. They never answer by themselves. */
-
-static inline uint32_t pandrwyg_draw_guarded(uint64_t q, uint64_t n, uint64_t k, uint64_t numbering, uint64_t index,
-                                             uint8_t *matrix, size_t length)
-{
-    static uint8_t wrong[257]; /* no matrix has as many bytes */
-    if (length > PTRDIFF_MAX || (matrix == NULL && length != 0))
-        return pandrwyg_draw(q, n, k, numbering, index, wrong, sizeof wrong);
-    return pandrwyg_draw(q, n, k, numbering, index, matrix == NULL ? wrong : matrix, length);
-}
-
-static inline uint32_t pandrwyg_draw_batch_guarded(uint64_t q, uint64_t n, uint64_t k, uint64_t numbering,
-                                                   const uint64_t *indexes, size_t index_count, uint8_t *matrices,
-                                                   size_t matrices_length, uint8_t *answers, size_t answers_length)
-{
-    static const uint64_t one_index[1] = {0};
-    static uint8_t wrong_matrices[257], wrong_answers[2]; /* no one index needs as many bytes */
-    if (index_count > PTRDIFF_MAX / sizeof *indexes || (indexes == NULL && index_count != 0) ||
-        matrices_length > PTRDIFF_MAX || (matrices == NULL && matrices_length != 0) ||
-        answers_length > PTRDIFF_MAX || (answers == NULL && answers_length != 0))
-        return pandrwyg_draw_batch(q, n, k, numbering, one_index, 1, wrong_matrices, sizeof wrong_matrices,
-                                   wrong_answers, sizeof wrong_answers);
-    return pandrwyg_draw_batch(q, n, k, numbering, indexes == NULL ? one_index : indexes, index_count,
-                               matrices == NULL ? wrong_matrices : matrices, matrices_length,
-                               answers == NULL ? wrong_answers : answers, answers_length);
-}
-
-static inline uint32_t pandrwyg_receive_guarded(uint64_t q, uint64_t n, uint64_t k, uint64_t numbering,
-                                                uint64_t row_count, const uint8_t *rows, size_t rows_length,
-                                                uint8_t *answer, size_t answer_length)
-{
-    static const uint8_t wrong_rows[1025] = {0}; /* no 64 rows have as many bytes */
-    static uint8_t wrong_answer[PANDRWYG_ANSWER_SIZE + 1];
-    if (rows_length > PTRDIFF_MAX || (rows == NULL && rows_length != 0)) {
-        rows = wrong_rows;
-        rows_length = sizeof wrong_rows;
-    }
-    if (answer_length > PTRDIFF_MAX || (answer == NULL && answer_length != 0)) {
-        answer = wrong_answer;
-        answer_length = sizeof wrong_answer;
-    }
-    return pandrwyg_receive(q, n, k, numbering, row_count, rows == NULL ? wrong_rows : rows, rows_length,
-                            answer == NULL ? wrong_answer : answer, answer_length);
-}
-
-#define pandrwyg_draw pandrwyg_draw_guarded
-#define pandrwyg_draw_batch pandrwyg_draw_batch_guarded
-#define pandrwyg_receive pandrwyg_receive_guarded
 
 #ifdef __cplusplus
 }

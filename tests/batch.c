@@ -12,8 +12,6 @@
 #include "check.h"
 #include "pandrwyg.h"
 
-#undef pandrwyg_draw_batch /* from here on the library's own symbol */
-
 enum { WHOLE_LIMIT = 5000, RANDOM_WORDS = 24, WORD_LIMIT = 40 };
 enum { LONG_LIST = 10000, LONGER_LIST = 70000, LONGEST_LIST = 1000000 };
 
@@ -23,7 +21,7 @@ typedef uint32_t batch_call(uint64_t q, uint64_t n, uint64_t k, uint64_t numberi
                             size_t index_count, uint8_t *matrices, size_t matrices_length, uint8_t *answers,
                             size_t answers_length);
 
-static batch_call *const calls[] = {pandrwyg_draw_batch_guarded, pandrwyg_draw_batch};
+static batch_call *const calls[] = {pandrwyg_draw_batch, pandrwyg_draw_batch_raw};
 
 /* The model of a list whose lengths are right: Draw alone at each place. */
 static uint32_t draw_alone(uint64_t q, uint64_t n, uint64_t k, uint64_t numbering, const uint64_t *indexes,
@@ -385,7 +383,7 @@ static void compare_empty(const setting *s, uint64_t numbering)
 {
     request r = right_request(s, numbering, few_indexes, 0);
     compare_both(second_draw_batch, &r, ACCEPTED);
-    uint32_t refusal = pandrwyg_draw_batch_guarded(s->q, s->n, s->k, numbering, NULL, 0, NULL, 0, NULL, 0);
+    uint32_t refusal = pandrwyg_draw_batch(s->q, s->n, s->k, numbering, NULL, 0, NULL, 0, NULL, 0);
     check(refusal == ACCEPTED, REQUEST_FORMAT ": null refused %u", REQUEST_VALUES(&r), refusal);
     r.matrices_length = 1;
     compare_both(second_draw_batch, &r, REFUSED_LENGTH);

@@ -1,12 +1,13 @@
 /*
- * Tests the header's numbers, and what its wrappers make of null pointers and of lengths that no buffer has: the
- * library refuses in its own order, no other memory is touched, and an empty buffer may be null.
+ * Tests the header's numbers, and what its calls make of null pointers and of lengths that no buffer has: the library
+ * refuses in its own order, no other memory is touched, and an empty buffer may be null.
  */
 #include "check.h"
 #include "pandrwyg.h"
 #include "refusals.h"
 
 #include <inttypes.h>
+#include <stdbool.h>
 #include <string.h>
 
 enum { PAINT = 0xA5, MATRIX = 18, ROWS = 18 };
@@ -18,15 +19,19 @@ typedef struct {
 } request;
 
 static const size_t no_lengths[] = {1, MATRIX, 257, 1025, PTRDIFF_MAX, (size_t)PTRDIFF_MAX + 1, SIZE_MAX - 1, SIZE_MAX};
+static const size_t too_long[] = {(size_t)PTRDIFF_MAX + 1, SIZE_MAX - 7, SIZE_MAX};
+static const size_t too_many[] = {PTRDIFF_MAX / 8 + 1, PTRDIFF_MAX, (size_t)PTRDIFF_MAX + 1, SIZE_MAX};
 
 static const request draws[] = {
     {6, 6, 3, 1, 0, REFUSED_FIELD}, {2, 0, 0, 1, 0, REFUSED_SHAPE}, {8, 16, 8, 1, 0, REFUSED_COUNT},
     {4, 6, 3, 3, 0, REFUSED_NUMBERING}, {8, 6, 3, 1, 0, REFUSED_LENGTH}, {2, 6, 3, 2, 1395, REFUSED_LENGTH},
+    {2, 6, 0, 1, 0, REFUSED_LENGTH}, {7, 6, 0, 2, 1, REFUSED_LENGTH},
 };
 
 static const request receptions[] = {
     {6, 6, 3, 1, 3, REFUSED_FIELD}, {2, 0, 0, 1, 3, REFUSED_SHAPE}, {8, 16, 8, 1, 3, REFUSED_COUNT},
     {4, 6, 3, 0, 3, REFUSED_NUMBERING}, {8, 6, 3, 1, 65, REFUSED_ROW_COUNT}, {2, 6, 3, 2, 3, REFUSED_LENGTH},
+    {2, 6, 0, 1, 0, REFUSED_LENGTH},
 };
 
 static void draw_null_group(void)
@@ -115,8 +120,6 @@ static void batch_null_group(void)
 
 static void batch_length_group(void)
 {
-    static const size_t too_long[] = {(size_t)PTRDIFF_MAX + 1, SIZE_MAX - 7, SIZE_MAX};
-    static const size_t too_many[] = {PTRDIFF_MAX / 8 + 1, PTRDIFF_MAX, (size_t)PTRDIFF_MAX + 1, SIZE_MAX};
     check_group_begin("Draw a batch with a length that no buffer has");
     for (size_t place = 0; place < sizeof draws / sizeof *draws; place++) {
         const request *r = &draws[place];
@@ -140,14 +143,39 @@ static void batch_length_group(void)
 static void batch_memory_group(void)
 {
     static const request empty_matrix = {2, 6, 0, 1, 0, REFUSED_LENGTH}, large = {2, 16, 16, 2, 0, REFUSED_LENGTH};
-    static const size_t counts[] = {PTRDIFF_MAX / 8 + 1, PTRDIFF_MAX, (size_t)PTRDIFF_MAX + 1, SIZE_MAX};
     const size_t many = ((size_t)PTRDIFF_MAX + 1) / 256; /* matrices of 256 bytes have one byte too many */
     check_group_begin("Draw a batch that no memory holds");
-    for (size_t place = 0; place < sizeof counts / sizeof *counts; place++) {
-        const batch list = {&empty_matrix.last, counts[place], batch_matrices, 0, batch_answers, counts[place]};
+    for (size_t place = 0; place < sizeof too_many / sizeof *too_many; place++) {
+        const batch list = {&empty_matrix.last, too_many[place], batch_matrices, 0, batch_answers, too_many[place]};
         compare_batch(&empty_matrix, &list);
     }
     compare_batch(&large, &(const batch){&large.last, many, batch_matrices, many * 256, batch_answers, many});
+    check_group_end();
+}
+
+/*
+ * A list that cannot be used beside two empty buffers, which would be right for no indexes and, with k = 0, right for any
+ * number of matrices: it must not become a list of no indexes, which is never refused 4.
+ */
+static void batch_list_group(void)
+{
+    static const request requests[] = {
+        {6, 6, 0, 1, 0, REFUSED_FIELD}, {6, 6, 3, 1, 0, REFUSED_FIELD}, {2, 17, 0, 1, 0, REFUSED_SHAPE},
+        {2, 17, 3, 1, 0, REFUSED_SHAPE}, {8, 16, 3, 1, 0, REFUSED_COUNT}, {2, 6, 0, 3, 0, REFUSED_NUMBERING},
+        {2, 6, 3, 0, 0, REFUSED_NUMBERING}, {2, 6, 0, 1, 0, REFUSED_LENGTH}, {2, 6, 3, 2, 0, REFUSED_LENGTH},
+    };
+    check_group_begin("Draw a batch of a list that is not there, to empty buffers");
+    for (size_t place = 0; place < sizeof requests / sizeof *requests; place++) {
+        const request *r = &requests[place];
+        for (size_t count = 1; count <= 3; count++) {
+            compare_batch(r, &(const batch){NULL, count, batch_matrices, 0, batch_answers, 0});
+            compare_batch(r, &(const batch){NULL, count, NULL, 0, NULL, 0});
+        }
+        for (size_t count = 0; count < sizeof too_many / sizeof *too_many; count++) {
+            compare_batch(r, &(const batch){&r->last, too_many[count], batch_matrices, 0, batch_answers, 0});
+            compare_batch(r, &(const batch){NULL, too_many[count], NULL, 0, NULL, 0});
+        }
+    }
     check_group_end();
 }
 
@@ -175,26 +203,46 @@ static void batch_empty_group(void)
     check_group_end();
 }
 
+static const uint8_t right_rows[ROWS] = {0, 1, 1, 0, 0, 1, 0, 0, 0, 1, 0, 0, 0, 0, 0, 0, 1, 1};
+
+/* A reception that the request's refusal meets; it may leave no mark on the answer that is lent, or that could have been. */
+static void compare_receive(const request *r, const uint8_t *rows, size_t rows_length, bool with_answer, size_t answer_length)
+{
+    uint8_t answer[PANDRWYG_ANSWER_SIZE];
+    memset(answer, PAINT, sizeof answer);
+    uint32_t refusal = pandrwyg_receive(r->q, r->n, r->k, r->numbering, r->last, rows, rows_length,
+                                        with_answer ? answer : NULL, answer_length);
+    check(refusal == r->refusal, "%zu%s and %zu%s bytes: %" PRIu32 " instead of %" PRIu32, rows_length,
+          rows == NULL ? " null" : "", answer_length, with_answer ? "" : " null", refusal, r->refusal);
+    for (size_t byte = 0; byte < sizeof answer; byte++)
+        check(answer[byte] == PAINT, "answer byte %zu is touched", byte);
+}
+
 static void receive_null_group(void)
 {
-    static const uint8_t rows[ROWS] = {0, 1, 1, 0, 0, 1, 0, 0, 0, 1, 0, 0, 0, 0, 0, 0, 1, 1};
     uint8_t answer[PANDRWYG_ANSWER_SIZE];
     check_group_begin("Receive from null and to null");
     for (size_t place = 0; place < sizeof receptions / sizeof *receptions; place++)
         for (size_t size = 0; size < sizeof no_lengths / sizeof *no_lengths; size++) {
-            const request *r = &receptions[place];
-            memset(answer, PAINT, sizeof answer);
-            uint32_t refusal = pandrwyg_receive(r->q, r->n, r->k, r->numbering, r->last, NULL, no_lengths[size], answer, sizeof answer);
-            check(refusal == r->refusal, "request %zu, no rows of length %zu: %" PRIu32, place, no_lengths[size], refusal);
-            for (size_t byte = 0; byte < sizeof answer; byte++)
-                check(answer[byte] == PAINT, "answer byte %zu is touched", byte);
-            refusal = pandrwyg_receive(r->q, r->n, r->k, r->numbering, r->last, rows, sizeof rows, NULL, no_lengths[size]);
-            check(refusal == r->refusal, "request %zu, no answer of length %zu: %" PRIu32, place, no_lengths[size], refusal);
+            compare_receive(&receptions[place], NULL, no_lengths[size], true, sizeof answer);
+            compare_receive(&receptions[place], right_rows, sizeof right_rows, false, no_lengths[size]);
+            compare_receive(&receptions[place], NULL, no_lengths[size], false, no_lengths[size]);
         }
-    check(pandrwyg_receive(2, 6, 3, 1, 3, rows, sizeof rows, NULL, 0) == REFUSED_LENGTH, "no room for an answer");
+    check(pandrwyg_receive(2, 6, 3, 1, 3, right_rows, sizeof right_rows, NULL, 0) == REFUSED_LENGTH, "no room for an answer");
     check(pandrwyg_receive(2, 6, 0, 1, 0, NULL, 0, answer, sizeof answer) == 0, "no rows span the empty matrix");
     for (size_t byte = 0; byte < sizeof answer; byte++)
         check(answer[byte] == 0, "its index, dimension and vector are 0, not byte %zu", byte);
+    check_group_end();
+}
+
+static void receive_length_group(void)
+{
+    check_group_begin("Receive with a length that no buffer has");
+    for (size_t place = 0; place < sizeof receptions / sizeof *receptions; place++)
+        for (size_t size = 0; size < sizeof too_long / sizeof *too_long; size++) {
+            compare_receive(&receptions[place], right_rows, too_long[size], true, PANDRWYG_ANSWER_SIZE);
+            compare_receive(&receptions[place], right_rows, sizeof right_rows, true, too_long[size]);
+        }
     check_group_end();
 }
 
@@ -212,10 +260,13 @@ static void readers_group(void)
 static void numbers_group(void)
 {
     static const uint32_t numbers[][2] = {
-        {PANDRWYG_FIELD_SIZE, REFUSED_FIELD}, {PANDRWYG_SHAPE, REFUSED_SHAPE}, {PANDRWYG_COUNT, REFUSED_COUNT},
-        {PANDRWYG_LENGTH, REFUSED_LENGTH}, {PANDRWYG_INDEX, REFUSED_INDEX}, {PANDRWYG_ENTRY, REFUSED_ENTRY},
+        {PANDRWYG_DONE, ACCEPTED}, {PANDRWYG_FIELD_SIZE, REFUSED_FIELD}, {PANDRWYG_SHAPE, REFUSED_SHAPE},
+        {PANDRWYG_COUNT, REFUSED_COUNT}, {PANDRWYG_LENGTH, REFUSED_LENGTH}, {PANDRWYG_INDEX, REFUSED_INDEX},
+        {PANDRWYG_ENTRY, REFUSED_ENTRY}, {PANDRWYG_NOT_REDUCED, REFUSED_UNREDUCED},
         {PANDRWYG_TOO_FEW, REFUSED_TOO_FEW}, {PANDRWYG_TOO_MANY, REFUSED_TOO_MANY},
-        {PANDRWYG_NUMBERING, REFUSED_NUMBERING}, {PANDRWYG_ROW_COUNT, REFUSED_ROW_COUNT},
+        {PANDRWYG_NUMBERING, REFUSED_NUMBERING}, {PANDRWYG_LINE, REFUSED_LINE}, {PANDRWYG_LISTING, REFUSED_LISTING},
+        {PANDRWYG_ROW_COUNT, REFUSED_ROW_COUNT}, {PANDRWYG_RECEIVER, REFUSED_RECEIVER},
+        {PANDRWYG_MISMATCH, REFUSED_MISMATCH},
     };
     check_group_begin("the header's refusal numbers");
     for (size_t place = 0; place < sizeof numbers / sizeof *numbers; place++)
@@ -233,7 +284,9 @@ int main(void)
     batch_null_group();
     batch_length_group();
     batch_memory_group();
+    batch_list_group();
     batch_empty_group();
     receive_null_group();
+    receive_length_group();
     return check_summary("border");
 }

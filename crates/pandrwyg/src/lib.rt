@@ -1,4 +1,5 @@
-// The functions for C: the pack's firmware calls Draw, the fleet server draws batches, the cabinet's daemon calls Receive.
+// The raw functions for C, over numbers and slices: the pack's firmware calls Draw, the fleet server draws batches, the cabinet's daemon calls
+// Receive. include/pandrwyg.h puts an inline function in front of each, which keeps null pointers out.
 ghost use mathlib.Core.Path.{_≡_};
 ghost use Prim.Native.Nat.{_<_};
 ghost use lib.ListN.{length};
@@ -14,7 +15,7 @@ use reduce::Space;
 // Draw for C: writes the reduced matrix with the given index of the numbering t. Refuses 1, 2, 3, 10, 4 (the buffer is not exactly k×n
 // bytes), 5, and then leaves the buffer.
 #[no_mangle]
-pub extern "C" fn pandrwyg_draw(
+pub extern "C" fn pandrwyg_draw_raw(
     q: u64,
     n: u64,
     k: u64,
@@ -32,7 +33,7 @@ pub extern "C" fn pandrwyg_draw(
 // of `answers`. An index of N or more leaves its k×n bytes, and its answer is 5. Refuses the whole 1, 2, 3, 10, 4 (either buffer is not
 // exactly as long as the list needs), and then leaves both buffers.
 #[no_mangle]
-pub extern "C" fn pandrwyg_draw_batch(
+pub extern "C" fn pandrwyg_draw_batch_raw(
     q: u64,
     n: u64,
     k: u64,
@@ -125,7 +126,7 @@ fn exported_refusal(q: u64, n: u64, k: u64, t: u64, row_count: u64, rows: &[u8],
 // Refuses as Receive does, and 4 if the answer isn't eleven bytes, after the rows' length. 8 and 9 leave index bytes of 0, the dimension
 // and the vector; other refusals leave the answer.
 #[no_mangle]
-pub extern "C" fn pandrwyg_receive(
+pub extern "C" fn pandrwyg_receive_raw(
     q: u64,
     n: u64,
     k: u64,

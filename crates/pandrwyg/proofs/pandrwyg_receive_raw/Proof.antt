@@ -1,4 +1,4 @@
--- `pandrwyg::pandrwyg_receive` meets its contract: a refusal leaves the answer, and what is not refused is written to it.
+-- `pandrwyg::pandrwyg_receive_raw` meets its contract: a refusal leaves the answer, and what is not refused is written to it.
 use mathlib.Core.Path.{_≡_, _∙_, ap, sym}
 use native.Mathlib.Omega.{arith}
 use lib.ListN.{length}
@@ -10,8 +10,8 @@ use Rattle.receive.specs.declared.Received.the-variants.{Refused}
 use Rattle.pandrwyg.specs.Exported.{leftBytes, exportedRefusal, exportedOf, exportedNumber, exportedBytes}
 use Rattle.pandrwyg.specs.laws.ExportedAccepted.{exported-accepted, exported-told}
 use borrow.Author.Needs.{needs}
-use Rattle.pandrwyg.proofs.pandrwyg_receive.Statement.{statement}
-use Rattle.pandrwyg.proofs.pandrwyg_receive.Tie as tie
+use Rattle.pandrwyg.proofs.pandrwyg_receive_raw.Statement.{statement}
+use Rattle.pandrwyg.proofs.pandrwyg_receive_raw.Tie as tie
 
 unrefused : (c : tie.Else1) →
     let a = c .before .before .before .before .args in
@@ -66,8 +66,8 @@ returns-2 c =
       ),
     )
 
-pub pandrwyg-receive-spec : {M : Type 1} → statement M
-pandrwyg-receive-spec =
+pub pandrwyg-receive-raw-spec : {M : Type 1} → statement M
+pandrwyg-receive-raw-spec =
     tie.close
     (tie.spec
     exported-refusal-requires
