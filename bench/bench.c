@@ -11,11 +11,19 @@
  *   a row    Take beside the library's own Receive of 64 rows, whose time is divided by 64: what a row costs there
  *   alone    Draw a batch beside the library's own Draw, called for each index of the same list to write the same bytes
  *
- * Before two are timed, their answers to the prepared inputs are compared. The list programs are run as processes that
- * write to /dev/null; their time is that of a line.
+ * Before two are timed, their answers to the prepared inputs are compared; a difference ends the bench. The list
+ * programs are run as processes: their listings are compared whole, then they write to /dev/null, and their time is
+ * that of a line.
+ *
+ *   bench answers
+ *
+ * makes all these comparisons and goes on after a difference. It takes no time and measures no stack. A line of the
+ * table whose answers are compared is a pass or a failure, and the last line of output is 'bench: N passed, M failed'.
+ * The lines beside a row of Receive compare nothing and are left out.
  */
 #define _XOPEN_SOURCE 700
 
+#include "check.h"
 #include "harness.h"
 #include "packed.h"
 #include "program.h"
@@ -29,8 +37,9 @@
 #include <flint/nmod_mat.h>
 #endif
 
-enum { INPUTS = 64, SAMPLES = 60, BATCH_SAMPLES = 240, SAMPLE_NANOSECONDS = 300000, ROWS_ROOM = PLAIN_ROWS * PLAIN_LENGTH };
-enum { BATCH = 10000, BATCH_ROOM = BATCH * PLAIN_ENTRIES, PAINT = 0xC3 };
+enum { INPUTS = 64, SAMPLES = 60, BATCH_SAMPLES = 240, SAMPLE_NANOSECONDS = 300000 };
+enum { ROWS_ROOM = PLAIN_ROWS * PLAIN_LENGTH, BATCH = 10000, BATCH_ROOM = BATCH * PLAIN_ENTRIES, PAINT = 0xC3 };
+enum { STOPPED = 2 };
 
 typedef struct {
     uint64_t q, n, k;
@@ -39,6 +48,16 @@ typedef struct {
 #define SETTING_FORMAT "%" PRIu64 ",%" PRIu64 ",%" PRIu64
 #define SETTING_VALUES(s) (s).q, (s).n, (s).k
 #define COUNT_OF(array) (sizeof(array) / sizeof *(array))
+
+/* False in the mode that compares answers alone. */
+static bool timed = true;
+
+/* Ends the bench over what no error number tells. */
+static void stop(const char *what, const char *why)
+{
+    fprintf(stderr, "%s: %s\n", what, why);
+    exit(STOPPED);
+}
 
 /* ---- Prepared inputs ---- */
 
@@ -360,65 +379,136 @@ static uint64_t reduce_flint(unsigned input)
     nmod_mat_set(flint_work, flint_matrices[input]);
     return (uint64_t)nmod_mat_rref(flint_work);
 }
+
+/* An entry of the first n rows of FLINT's reduced matrix; rows that it lacks are zeros in the library's. */
+static uint64_t flint_entry(size_t place)
+{
+    return place < rows_length() ? nmod_mat_entry(flint_work, place / now.n, place % now.n) : 0;
+}
+
+/* Whether the library tells FLINT's rank and leaves its reduced matrix. */
+static bool flint_agrees(unsigned input)
+{
+    memset(out, PAINT, sizeof out);
+    harness_answer told = harness_reduce(now.q, now.n, row_count, rows[input], rows_length(), out, square());
+    if (told.refusal != PLAIN_DONE || told.dimension != reduce_flint(input))
+        return false;
+    for (size_t place = 0; place < square(); place++)
+        if (out[place] != flint_entry(place))
+            return false;
+    return true;
+}
 #endif
 
 /* ---- The list programs ---- */
 
 static const char library_list[] = "target/bin/list", other_list[] = "target/bench/list";
 
-/* The files that hold the settings line and take the listing. */
-static int line_end, listing_end;
+/* The file that holds the settings line, and the end that takes the listings of timed runs. */
+static int line_end, null_end;
 
-/* Runs a program over the settings line. */
-static void list(const char *program)
+/* Runs a program over the settings line; whether it exits with status 0. */
+static bool list(const char *program, int listing_end)
 {
     lseek(line_end, 0, SEEK_SET);
-    if (program_wait(program_start(program, line_end, listing_end)) != 0)
-        program_trouble(program);
+    return program_wait(program_start(program, line_end, listing_end)) == 0;
 }
 
-/* The length of a program's listing in a file. */
-static off_t listing_length(const char *program)
-{
-    FILE *file = tmpfile();
-    if (file == NULL)
-        program_trouble("a file for the listing");
-    listing_end = fileno(file);
-    list(program);
-    off_t length = lseek(listing_end, 0, SEEK_END);
-    fclose(file);
-    return length;
-}
-
-/* Writes the settings line; both programs must list, and to the same length. */
-static void prepare_list(setting s, uint64_t count)
+static void prepare_list(setting s)
 {
     off_t start = lseek(line_end, 0, SEEK_SET);
     int length = dprintf(line_end, SETTING_FORMAT "\n", SETTING_VALUES(s));
     if (start != 0 || ftruncate(line_end, length) != 0)
         program_trouble("the settings line");
-    off_t listed = listing_length(library_list);
-    if (listed < (off_t)count || listed != listing_length(other_list))
-        program_trouble("other listings");
+}
+
+/* Whether two files have the same bytes, and so many lines. */
+static bool same_lines(FILE *one, FILE *two, uint64_t count)
+{
+    uint64_t lines = 0;
+    int byte;
+    rewind(one);
+    rewind(two);
+    while ((byte = getc(one)) == getc(two) && byte != EOF)
+        lines += byte == '\n';
+    return feof(one) && feof(two) && lines == count;
+}
+
+/* Whether both programs list, and the same: a first line, and one for each space. */
+static bool lists_agree(uint64_t count)
+{
+    FILE *one = tmpfile(), *two = tmpfile();
+    if (one == NULL || two == NULL)
+        program_trouble("the files for the listings");
+    bool same = list(library_list, fileno(one)) && list(other_list, fileno(two)) && same_lines(one, two, count + 1);
+    fclose(one);
+    fclose(two);
+    return same;
+}
+
+static uint64_t list_timed(const char *program)
+{
+    if (!list(program, null_end))
+        stop(program, "the program fails");
+    return 0;
 }
 
 static uint64_t list_library(unsigned input)
 {
     (void)input;
-    list(library_list);
-    return 0;
+    return list_timed(library_list);
 }
 
 static uint64_t list_plain(unsigned input)
 {
     (void)input;
-    list(other_list);
-    return 0;
+    return list_timed(other_list);
+}
+
+/* ---- Answers ---- */
+
+typedef uint64_t timed_call(unsigned input);
+
+/* Counts a line of the table, by whether its answers agree. Where times are taken, a difference ends the bench. */
+static void judge(const char *name, bool agree)
+{
+    const char *line = name + strspn(name, " ");
+    if (timed && !agree)
+        stop(line, "the answers differ");
+    check_group_begin("%s", line);
+    check(agree, "the answers differ");
+    check_group_end();
+}
+
+static bool numbers_agree(timed_call *library, timed_call *other)
+{
+    for (unsigned input = 0; input < INPUTS; input++)
+        if (library(input) != other(input))
+            return false;
+    return true;
+}
+
+static void paint_batch(void)
+{
+    memset(batch_matrices, PAINT, sizeof batch_matrices);
+    memset(batch_answers, PAINT, sizeof batch_answers);
+}
+
+/* Draws the batch in one call and otherwise; whether both leave the same in all of the painted memory. */
+static bool batches_agree(timed_call *other)
+{
+    static uint8_t matrices_left[BATCH_ROOM], answers_left[BATCH];
+    paint_batch();
+    batch_library(0);
+    memcpy(matrices_left, batch_matrices, sizeof matrices_left);
+    memcpy(answers_left, batch_answers, sizeof answers_left);
+    paint_batch();
+    other(0);
+    return memcmp(matrices_left, batch_matrices, sizeof matrices_left) == 0 &&
+           memcmp(answers_left, batch_answers, sizeof answers_left) == 0;
 }
 
 /* ---- Time ---- */
-
-typedef uint64_t timed_call(unsigned input);
 
 static double nanoseconds(void)
 {
@@ -487,16 +577,23 @@ static void measure(timed_call *first, timed_call *second, unsigned inputs, unsi
     }
 }
 
-/* Compares the answers, then the times of calls of so many units each. */
-static void compare_units(const char *kind, const char *name, unsigned inputs, uint64_t units, timed_call *library,
-                          timed_call *other)
+/* Tells the times of calls of so many units each. */
+static void time_units(const char *kind, const char *name, unsigned inputs, unsigned samples, uint64_t units,
+                       timed_call *library, timed_call *other)
 {
     double times[2];
-    for (unsigned input = 0; input < inputs; input++)
-        if (library(input) != other(input))
-            program_trouble(name);
-    measure(library, other, inputs, SAMPLES, times);
+    if (!timed)
+        return;
+    measure(library, other, inputs, samples, times);
     report(kind, name, times[0] / (double)units, times[1] / (double)units);
+}
+
+/* ---- Answers, then times ---- */
+
+static void compare_inputs(const char *kind, const char *name, timed_call *library, timed_call *other)
+{
+    judge(name, numbers_agree(library, other));
+    time_units(kind, name, INPUTS, SAMPLES, 1, library, other);
 }
 
 /* A line's name: the call, at the settings and numbering of now. */
@@ -511,31 +608,14 @@ static const char *line_name(const char *call)
 /* The calls of one kind. */
 static void compare(const char *kind, const char *call, timed_call *library, timed_call *other)
 {
-    compare_units(kind, line_name(call), INPUTS, 1, library, other);
+    compare_inputs(kind, line_name(call), library, other);
 }
 
-static void paint_batch(void)
-{
-    memset(batch_matrices, PAINT, sizeof batch_matrices);
-    memset(batch_answers, PAINT, sizeof batch_answers);
-}
-
-/* Draws the batch in one call and otherwise; both must leave the same in all of the painted memory. */
 static void compare_batch(const char *kind, const char *call, timed_call *other)
 {
-    static uint8_t matrices_left[BATCH_ROOM], answers_left[BATCH];
-    double times[2];
-    paint_batch();
-    batch_library(0);
-    memcpy(matrices_left, batch_matrices, sizeof matrices_left);
-    memcpy(answers_left, batch_answers, sizeof answers_left);
-    paint_batch();
-    other(0);
-    if (memcmp(matrices_left, batch_matrices, sizeof matrices_left) != 0 ||
-        memcmp(answers_left, batch_answers, sizeof answers_left) != 0)
-        program_trouble(call);
-    measure(batch_library, other, 1, BATCH_SAMPLES, times);
-    report(kind, line_name(call), times[0] / BATCH, times[1] / BATCH);
+    const char *name = line_name(call);
+    judge(name, batches_agree(other));
+    time_units(kind, name, 1, BATCH_SAMPLES, BATCH, batch_library, other);
 }
 
 static void compare_receive(setting s, uint64_t chosen, uint64_t mixed_rows)
@@ -572,7 +652,9 @@ static void compare_take(setting s, const char *form, timed_call *library)
     double times[2];
     prepare_takes(s);
     snprintf(name, sizeof name, "%s " SETTING_FORMAT, form, SETTING_VALUES(s));
-    compare_units(form, name, INPUTS, 1, library, take_plain);
+    compare_inputs(form, name, library, take_plain);
+    if (!timed)
+        return;
     measure(library, receive_library, INPUTS, SAMPLES, times);
     snprintf(name, sizeof name, "  a row of receive " SETTING_FORMAT, SETTING_VALUES(s));
     report("take, a row of receive", name, times[0], times[1] / PLAIN_ROWS);
@@ -583,7 +665,7 @@ static void compare_idle(setting s)
     char name[64];
     prepare_idles(s);
     snprintf(name, sizeof name, "take by value, idle row " SETTING_FORMAT, SETTING_VALUES(s));
-    compare_units("take by value, idle row", name, INPUTS, 1, take_library, take_plain);
+    compare_inputs("take by value, idle row", name, take_library, take_plain);
 }
 
 static void compare_setting(setting s)
@@ -595,21 +677,39 @@ static void compare_setting(setting s)
     compare_idle(s);
 }
 
+#ifdef WITH_FLINT
+static bool reduced_agree(void)
+{
+    for (unsigned input = 0; input < INPUTS; input++)
+        if (!flint_agrees(input))
+            return false;
+    return true;
+}
+
+/* The rows of now, over a prime. */
+static void compare_flint(void)
+{
+    char name[64];
+    snprintf(name, sizeof name, "  FLINT q=%" PRIu64 " n=%" PRIu64, now.q, now.n);
+    prepare_flint();
+    judge(name, reduced_agree());
+    time_units("reduce, FLINT", name, INPUTS, SAMPLES, 1, reduce_library, reduce_flint);
+    clear_flint();
+}
+#endif
+
 static void compare_reduce(uint64_t q, uint64_t n)
 {
     char name[64];
     prepare_reduce(q, n);
     snprintf(name, sizeof name, "reduce 64 rows q=%" PRIu64 " n=%" PRIu64, q, n);
-    compare_units("reduce", name, INPUTS, 1, reduce_library, reduce_plain);
+    compare_inputs("reduce", name, reduce_library, reduce_plain);
     snprintf(name, sizeof name, "  packed q=%" PRIu64 " n=%" PRIu64, q, n);
     if (q == 2)
-        compare_units("reduce, packed", name, INPUTS, 1, reduce_library, reduce_packed);
+        compare_inputs("reduce, packed", name, reduce_library, reduce_packed);
 #ifdef WITH_FLINT
-    if (q == 4 || q == 8)
-        return;
-    prepare_flint();
-    compare_units("reduce, FLINT", "  FLINT", INPUTS, 1, reduce_library, reduce_flint);
-    clear_flint();
+    if (q != 4 && q != 8)
+        compare_flint();
 #endif
 }
 
@@ -620,26 +720,28 @@ static void compare_reduces(void)
             compare_reduce(plain_sizes[place], n);
 }
 
-static void compare_list(setting s, int null)
+static void compare_list(setting s)
 {
     char name[64];
     uint64_t count = plain_count(s.q, s.n, s.k).value;
-    prepare_list(s, count);
-    listing_end = null;
+    prepare_list(s);
     snprintf(name, sizeof name, "list " SETTING_FORMAT ", a line of %" PRIu64, SETTING_VALUES(s), count);
-    compare_units("list", name, 1, count, list_library, list_plain);
+    judge(name, lists_agree(count));
+    time_units("list", name, 1, SAMPLES, count, list_library, list_plain);
 }
 
 static void compare_lists(void)
 {
     FILE *line = tmpfile();
-    int null = open("/dev/null", O_WRONLY);
-    if (line == NULL || null == NO_END)
+    null_end = open("/dev/null", O_WRONLY);
+    if (line == NULL || null_end == NO_END)
         program_trouble("the ends of the list programs");
+    if (access(library_list, X_OK) != 0)
+        program_trouble(library_list);
     line_end = fileno(line);
-    compare_list((setting){2, 16, 15}, null);
-    compare_list((setting){2, 16, 1}, null);
-    close(null);
+    compare_list((setting){2, 16, 15});
+    compare_list((setting){2, 16, 1});
+    close(null_end);
     fclose(line);
 }
 
@@ -647,16 +749,12 @@ static void compare_all(void)
 {
     static const setting chosen[] = {{2, 6, 3}, {2, 16, 6}, {2, 16, 10}, {3, 12, 5}, {4, 10, 4}, {4, 16, 2}, {5, 10, 4},
                                      {7, 9, 4}, {8, 8, 3}};
-    printf("%-44s %12s %12s %9s\n", "call", "library ns", "other ns", "ratio");
     prepare_counts();
-    compare_units("count", "count, 64 settings", INPUTS, 1, count_library, count_plain);
+    compare_inputs("count", "count, 64 settings", count_library, count_plain);
     for (unsigned place = 0; place < COUNT_OF(chosen); place++)
         compare_setting(chosen[place]);
     compare_reduces();
     compare_lists();
-    printf("\nthe highest ratio of each call:\n");
-    for (unsigned place = 0; place < COUNT_OF(worst) && worst[place].call != NULL; place++)
-        printf("  %-24s %6.2f  %s\n", worst[place].call, worst[place].ratio, worst[place].line);
 }
 
 /* ---- Stack ---- */
@@ -721,10 +819,15 @@ static size_t stack_use(void (*call)(void))
     return most - empty;
 }
 
-int main(void)
+/* ---- The two modes ---- */
+
+static int tell_times(void)
 {
-    plain_init();
+    printf("%-44s %12s %12s %9s\n", "call", "library ns", "other ns", "ratio");
     compare_all();
+    printf("\nthe highest ratio of each call:\n");
+    for (unsigned place = 0; place < COUNT_OF(worst) && worst[place].call != NULL; place++)
+        printf("  %-24s %6.2f  %s\n", worst[place].call, worst[place].ratio, worst[place].line);
     stack = malloc(STACK_LENGTH);
     if (stack == NULL)
         return 1;
@@ -733,4 +836,24 @@ int main(void)
     printf("stack of receive of 64 rows, all settings: %zu bytes\n", stack_use(call_receive));
     free(stack);
     return 0;
+}
+
+static int tell_answers(void)
+{
+    compare_all();
+#ifndef WITH_FLINT
+    puts("FLINT is not installed: no comparison with it");
+#endif
+    return check_summary("bench");
+}
+
+int main(int argument_count, char **arguments)
+{
+    timed = argument_count < 2;
+    if (argument_count > 2 || (!timed && strcmp(arguments[1], "answers") != 0)) {
+        fputs("usage: bench [answers]\n", stderr);
+        return STOPPED;
+    }
+    plain_init();
+    return timed ? tell_times() : tell_answers();
 }

@@ -1,6 +1,8 @@
 /* The list program in plain C: reads the line and writes the listing, or the refusal, as the library's program does. */
 #include "plain.h"
 
+#include <stdio.h>
+
 enum { LISTING_LIMIT = 65536, DIGIT_LIMIT = 3, INPUT_ROOM = 16, LINE_ROOM = 320, OUTPUT_ROOM = 1 << 16 };
 
 /* ---- The input ---- */

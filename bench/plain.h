@@ -9,7 +9,6 @@
 #include <stdbool.h>
 #include <stddef.h>
 #include <stdint.h>
-#include <stdio.h>
 
 enum { PLAIN_LENGTH = 16, PLAIN_ROWS = 64, PLAIN_ENTRIES = 256, PLAIN_FIELD = 8, PLAIN_DOTS = 64, PLAIN_ANSWER = 11 };
 
@@ -73,13 +72,23 @@ typedef struct {
     uint8_t inverse[PLAIN_FIELD];
 } plain_field;
 
+/*
+ * p(k, eta, m), and by q, k, eta and m how many spaces have more than m dots. For a controller, where PLAIN_CONST is
+ * defined, all tables are constants (const_tables.c), and these two have no gaps: what is indexed by m is a pointer.
+ */
+#ifdef PLAIN_CONST
+extern const plain_field plain_fields[PLAIN_FIELD + 1];
+extern const uint64_t plain_powers[PLAIN_FIELD + 1][PLAIN_DOTS + 1];
+extern const uint64_t plain_gaussian[PLAIN_FIELD + 1][PLAIN_LENGTH + 1][PLAIN_LENGTH + 1];
+extern const uint32_t *const plain_partitions[PLAIN_LENGTH + 1][PLAIN_LENGTH + 1];
+extern const uint64_t *const plain_tails[PLAIN_FIELD + 1][PLAIN_LENGTH + 1][PLAIN_LENGTH + 1];
+#else
 extern plain_field plain_fields[PLAIN_FIELD + 1];
 extern uint64_t plain_powers[PLAIN_FIELD + 1][PLAIN_DOTS + 1];
 extern uint64_t plain_gaussian[PLAIN_FIELD + 1][PLAIN_LENGTH + 1][PLAIN_LENGTH + 1];
-
-/* p(k, eta, m), and by q, k, eta and m how many spaces have more than m dots. */
 extern uint32_t plain_partitions[PLAIN_LENGTH + 1][PLAIN_LENGTH + 1][PLAIN_DOTS + 1];
 extern uint64_t plain_tails[PLAIN_FIELD + 1][PLAIN_LENGTH + 1][PLAIN_LENGTH + 1][PLAIN_DOTS + 1];
+#endif
 
 /* Refusals 1, 2 and 3; then 10. */
 uint32_t plain_setting(uint64_t q, uint64_t n, uint64_t k);

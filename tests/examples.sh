@@ -61,6 +61,19 @@ same 'no record' "$(answer examples/run ten | sed -n '1s/:.*//p; $p')" "$pack_fa
 same 'too many words' "$(answer examples/run 1 2)" '1: examples/run: usage: examples/run [RECORD]'
 same 'from another folder' "$(cd tests && answer ../examples/run | grep -c '^  rows: ')" 2
 
+# ---- The pack's firmware on the emulated controller, where its tools are here ----
+
+if bin/need -n arm-none-eabi-gcc qemu-system-arm; then
+    same 'the controller' "$(examples/controller/run | tail -n 1)" 'rows: 6; dimensions: 6 of 6; record: 1234567890123456789'
+    same 'the controller sends what pack sends' "$(cat "$programs/sent")" "$("$programs/pack")"
+    same 'another record on the controller' "$(examples/controller/run 0 | tail -n 1)" 'rows: 6; dimensions: 6 of 6; record: 0'
+    same 'a record too large for the controller' "$(answer examples/controller/run 18446744073709551615 | tail -n 1)" \
+        'examples/controller/run: the pack refused its record, or failed'
+    same 'a record with a leading zero' "$(answer examples/controller/run 010)" \
+        "64: examples/controller/run: '010' is no decimal number without leading zeros"
+    same 'the firmware links no writable data' "$(examples/controller/run | sed -n 's/.*, \([0-9]*\) bytes of RAM.*/\1/p')" 0
+fi
+
 # ---- Quotations ----
 
 printf '%s\n' "${shown#*: }" >"$programs/shown"

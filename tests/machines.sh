@@ -86,9 +86,9 @@ build_host() {
 
 # shellcheck disable=SC2086 # lists of words
 build_board() {
-    arm-none-eabi-gcc $strict -mcpu="$machine" -mthumb -Os -ffreestanding -fno-tree-loop-distribute-patterns -nostdlib -T $here/board.ld \
-        -Wl,--gc-sections -Wl,-z,noexecstack -o "$to/$machine.elf" $here/board.c $here/calls.c "$to/settings.c" \
-        "target/$machine/libpandrwyg.a" -lgcc
+    arm-none-eabi-gcc $strict -mcpu="$machine" -mthumb -Os -ffreestanding -fno-tree-loop-distribute-patterns -nostdlib \
+        -T examples/controller/controller.ld -Wl,--gc-sections -Wl,-z,noexecstack -o "$to/$machine.elf" examples/controller/start.c \
+        $here/firmware.c $here/calls.c "$to/settings.c" "target/$machine/libpandrwyg.a" -lgcc
 }
 
 # What the firmware says comes by semihosting; $1 is the emulator's name of the board.

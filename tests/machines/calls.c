@@ -290,7 +290,8 @@ static void make_refusals(void)
     check(pandrwyg_draw_batch(2, 3, 1, 1, indexes, 3, matrices, 9, answers, 3) == 0, "a batch is refused");
     check(is_text("011", matrices) && is_painted(matrices + 3, 6), "the parts of a batch");
     check(answers[0] == 0 && answers[1] == REFUSED_INDEX && answers[2] == REFUSED_INDEX, "the answers of a batch");
-    check(is_fenced(matrices_room, sizeof matrices_room, 9) && is_fenced(answers_room, sizeof answers_room, 3), "its fences");
+    check(is_fenced(matrices_room, sizeof matrices_room, 9) && is_fenced(answers_room, sizeof answers_room, 3),
+          "the fences of a batch");
     /* Nothing is asked. */
     check(pandrwyg_draw(2, 6, 0, 1, 0, NULL, 0) == 0, "the empty matrix");
     check(pandrwyg_draw_batch(2, 6, 3, 1, NULL, 0, NULL, 0, NULL, 0) == 0, "the empty list");
@@ -409,7 +410,8 @@ static void draw_batch(const setting *s, uint64_t numbering)
     indexes[4] = random_index(s->count);
     fill(matrices_room, sizeof matrices_room, PAINT);
     fill(answers_room, sizeof answers_room, PAINT);
-    absorb_refusal(pandrwyg_draw_batch(s->q, s->n, s->k, numbering, indexes, BATCH, matrices, BATCH * width, answers, BATCH));
+    absorb_refusal(pandrwyg_draw_batch(s->q, s->n, s->k, numbering, indexes, BATCH, matrices, BATCH * width, answers,
+                                       BATCH));
     absorb(matrices_room, FENCE + BATCH * width + FENCE);
     absorb(answers_room, sizeof answers_room);
 }

@@ -29,10 +29,10 @@ uint32_t pandrwyg_receive_raw(uint64_t q, uint64_t n, uint64_t k, uint64_t numbe
     uint64_t index;
     second_told told;
     uint32_t refusal = second_receive(q, n, k, numbering, row_count, rows, rows_length, &index, &told);
-    bool passed_lengths = refusal == ACCEPTED || refusal == REFUSED_ENTRY || refusal == REFUSED_TOO_FEW || refusal == REFUSED_TOO_MANY;
-    if (passed_lengths && answer_length != 11)
+    bool reduced = refusal == ACCEPTED || refusal == REFUSED_TOO_FEW || refusal == REFUSED_TOO_MANY;
+    if ((reduced || refusal == REFUSED_ENTRY) && answer_length != 11)
         return REFUSED_LENGTH;
-    if (passed_lengths && refusal != REFUSED_ENTRY) {
+    if (reduced) {
         for (unsigned byte = 0; byte < 8; byte++)
             answer[byte] = (uint8_t)(index >> 8 * byte);
         answer[8] = (uint8_t)told.dimension;

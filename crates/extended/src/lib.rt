@@ -59,9 +59,9 @@ pub fn unrank(m: &mut [u8], q: u64, n: usize, k: usize, index: ExtendedIndex) ->
     let mut columns = n;
     while columns > 0 {
         let c = columns - 1;
-        let free = counts::free_count(q, c as u64, rows as u64);
+        let each = counts::coefficient(q, c as u64, rows as u64);
+        let free = counts::free_of(q, c as u64, rows as u64, each);
         if rest < free {
-            let each = counts::coefficient(q, c as u64, rows as u64);
             let value = rest / each;
             rest = rest % each;
             matrix::write_digits(m, q, n, k, c, rows, value);

@@ -6,7 +6,6 @@ ghost use lib.Count.{trailingZeros};
 ghost use lib.Dec.{T, eqb, ltb};
 ghost use lib.ListN.{length, getD, replicate};
 ghost use Rattle.field.specs.Field.{isFieldSize};
-ghost use Rattle.field.specs.laws.Kinds.{elementBits};
 ghost use Rattle.matrix.specs.Matrix.{entry, lead as leadOf, pivot, entriesBelow, Reduced, identifying as vectorOf};
 ghost use Rattle.matrix.specs.Shape.{digitAt};
 ghost use Rattle.matrix.specs.laws.Shape.{topValue};
@@ -60,40 +59,76 @@ pub fn add_pivot(v: u16, n: usize, p: usize) -> u16
     v + (1u16 << (n - 1 - p))
 }
 
-// The digits of x in base q but for the last. A constant divisor, or a shift by `bits`, spares the division.
-fn other_digits(q: u64, bits: u32, x: u64) -> u64
-    requires { ⌜ T (isFieldSize q) × (bits ≡ elementBits q) ⌝ }
-    ensures { λ r. ⌜ r ≡ x / q ⌝ }
+// A number without its last digit in base q, and that digit.
+struct Parted {
+    others: u64,
+    last: u8,
+}
+
+// What x leaves when it is divided by q, `others` times. The low bytes alone tell it, which spares a product of 64 bits.
+fn left_over(q: u32, x: u64, others: u64) -> u8
+    requires { ⌜ (0 < q) × (q ≤ 8) × (others ≡ x / q) ⌝ }
+    ensures { λ r. ⌜ r ≡ x % q ⌝ }
+{
+    (((x % 256) as u32 + 256 * q - (others % 256) as u32 * q) % 256) as u8
+}
+
+// Parts x by q. Each size has its own constants, so that nothing is divided or shifted by a number that is known only at run time, and the
+// evenness is asked first, so that the compiler makes a loop for each size.
+fn part_digit(q: u64, x: u64) -> Parted
+    requires { ⌜ T (isFieldSize q) ⌝ }
+    ensures { λ r. ⌜ (r .others ≡ x / q) × (r .last ≡ x % q) ⌝ }
 {
     if q % 2 == 0 {
         if q == 2 {
-            return x / 2;
+            return Parted {
+                others: x / 2,
+                last: (x % 2) as u8,
+            };
         }
-        return x >> bits;
+        if q == 4 {
+            return Parted {
+                others: x / 4,
+                last: (x % 4) as u8,
+            };
+        }
+        return Parted {
+            others: x / 8,
+            last: (x % 8) as u8,
+        };
     }
     match q {
-        3 => x / 3,
-        5 => x / 5,
-        _ => x / 7,
+        3 => Parted {
+            others: x / 3,
+            last: left_over(3, x, x / 3),
+        },
+        5 => Parted {
+            others: x / 5,
+            last: left_over(5, x, x / 5),
+        },
+        _ => Parted {
+            others: x / 7,
+            last: left_over(7, x, x / 7),
+        },
     }
 }
 
 // Writes the base-q digits of x into the first `rows` entries of column c, the last digit lowest, and answers the digits that are left. The
-// other entries are 0 already.
+// other entries are 0 already. `start` is where row i begins: a product for each entry is dear on a narrow processor.
 pub fn write_digits(m: &mut [u8], q: u64, n: usize, k: usize, c: usize, rows: usize, x: u64) -> u64
     requires { ⌜ T (isFieldSize q) × (c < n) × (rows ≤ k) × (k * n ≤ length (now m)) × Blank n k c rows (now m) ⌝ }
     ensures { λ _. ⌜ Written n k c (digitAt q rows x) (now (m .entry)) (now (m .exit)) ⌝ }
     ensures { λ r. ⌜ r ≡ x / q ^ rows ⌝ }
 {
-    let bits = field::bits(q);
     let mut rest = x;
+    let mut start = rows * n;
     let mut i = rows;
     while i > 0 {
-        let a = i - 1;
-        let others = other_digits(q, bits, rest);
-        m[a * n + c] = (rest - others * q) as u8;
-        rest = others;
-        i = a;
+        let parted = part_digit(q, rest);
+        i -= 1;
+        start -= n;
+        m[start + c] = parted.last;
+        rest = parted.others;
     }
     rest
 }

@@ -38,7 +38,7 @@ pub fn box_count(n: usize, k: usize, m: usize) -> u64
     if n < k {
         return 0;
     }
-    let limit = k * (n - k);
+    let limit = (k as u32 * (n - k) as u32) as usize;
     if limit < m {
         return 0;
     }

@@ -1,6 +1,6 @@
 -- `counts::coefficient` meets its contract: where k ≤ n the count stands among the halves, at the place that is looked up.
 use mathlib.Core.Path.{ap, ap₂, _∙_, sym}
-use Prim.Native.Nat.{_+_, _*_}
+use Prim.Native.Nat.{_+_, _*_, _<_}
 use native.Mathlib.Omega.{arith}
 use lib.ListN.{getD}
 use Rattle.counts.specs.Gaussian.{capped}
@@ -16,8 +16,17 @@ returns c = let a = c .before .args in sym (ap capped (gaussian-none (a .q) (a .
 position-requires : tie.Need-position-requires
 position-requires c κs = search needs
 
+small : (c : tie.After-position) → c .position .result < 6
+small c = let s = c .before .before in omega (arith, c .position .ensures, part-below (s .args .q) (s .pre .0))
+
+cast-part : tie.Need-cast-part
+cast-part c = omega (arith, small c)
+
 mul-count : tie.Need-mul-count
-mul-count c = let s = c .before .before in omega (arith, c .position .ensures, part-below (s .args .q) (s .pre .0))
+mul-count c = omega (arith, small c)
+
+cast-count : tie.Need-cast-count
+cast-count c = omega (arith, small c)
 
 half-place-requires : tie.Need-half-place-requires
 half-place-requires c κs = search needs
@@ -43,4 +52,4 @@ returns-2 c =
     ∙ half-at (a .q) (a .n) (a .k) (s .pre .0) (s .pre .1) (found .before .before .if1 .left)
 
 pub coefficient-spec : {M : Type 1} → statement M
-coefficient-spec = tie.close (tie.spec returns position-requires mul-count half-place-requires add-count count-requires returns-2)
+coefficient-spec = tie.close (tie.spec returns position-requires cast-part mul-count cast-count half-place-requires add-count count-requires returns-2)

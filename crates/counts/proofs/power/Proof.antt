@@ -27,30 +27,31 @@ bits-requires c κs = search needs
 -- the shift that makes the power
 shifted : (c : tie.After-bits) →
     let a = c .before .before .args in
-    let e = c .bits .result * a .m in
-    (c .bits .result < 4) × (e < 64) × (2 ^ e ≡ a .q ^ a .m)
+    let e = c .bits .result * a .m in (e < 64) × (2 ^ e ≡ a .q ^ a .m)
 shifted c =
     let s = c .before .before in
     let a = s .args in
     let b = even-bits (a .q) (s .pre .0) (c .before .if1 .taken) in
     let same : a .q ≡ 2 ^ c .bits .result = sym (ap (λ x. 2 ^ x) (c .bits .ensures) ∙ b .1) in
-    let shift = power-shift (a .q) (c .bits .result) (a .m) same (s .pre .2) in
-    (omega (arith, c .bits .ensures, b .0), shift .0, shift .1)
+    power-shift (a .q) (c .bits .result) (a .m) same (s .pre .2)
 
 cast-result : tie.Need-cast-result
-cast-result c = omega (arith, shifted c .0)
+cast-result c = search needs
 
 mul-result : tie.Need-mul-result
-mul-result c = omega (arith, shifted c .1)
+mul-result c = omega (arith, shifted c .0)
+
+cast-result-2 : tie.Need-cast-result-2
+cast-result-2 c = omega (arith, shifted c .0)
 
 shl-result : tie.Need-shl-result
-shl-result c = omega (arith, shifted c .1)
+shl-result c = omega (arith, shifted c .0)
 
 returns : tie.Need-returns
 returns c =
     let e = c .bits .result * c .before .before .args .m in
-    let inside : e < 64 = shifted c .1 in
-    shl-exact {a = 1} 1 e 64 (lit< tt) (omega arith) ∙ one-mul (2 ^ e) ∙ shifted c .2
+    let inside : e < 64 = shifted c .0 in
+    shl-exact {a = 1} 1 e 64 (lit< tt) (omega arith) ∙ one-mul (2 ^ e) ∙ shifted c .1
 
 power-requires : tie.Need-power-requires
 power-requires c κs = search needs
@@ -95,6 +96,7 @@ power-spec =
     bits-requires
     cast-result
     mul-result
+    cast-result-2
     shl-result
     returns
     power-requires

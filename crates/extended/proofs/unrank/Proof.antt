@@ -26,23 +26,26 @@ loop-holds c =
 sub-c : tie.Need-sub-c Inv-loop μ-loop
 sub-c c = omega arith
 
-free-count-requires : tie.Need-free-count-requires Inv-loop μ-loop
-free-count-requires c κs =
-    free-asked (c .before .before .before .before .before .before .before .pre .0) (c .before .loop .inv) (omega arith)
-
 coefficient-requires : tie.Need-coefficient-requires Inv-loop μ-loop
 coefficient-requires c κs =
-    let l = c .before .before .before in
+    let l = c .before in
     let asked =
     free-asked {c = l .loop .columns - 1} (l .before .before .before .before .before .before .pre .0) (l .loop .inv) (omega arith) in
     (asked .0, omega (arith, asked .1), asked .2)
 
-positive : (c : tie.After-coefficient Inv-loop μ-loop) → 0 < c .coefficient .result
+free-of-requires : tie.Need-free-of-requires Inv-loop μ-loop
+free-of-requires c κs =
+    let l = c .before .before in
+    let asked =
+    free-asked {c = l .loop .columns - 1} (l .before .before .before .before .before .before .pre .0) (l .loop .inv) (omega arith) in
+    (asked .0, asked .1, asked .2, asked .3, c .coefficient .ensures)
+
+positive : (c : tie.Then1 Inv-loop μ-loop) → 0 < c .before .before .coefficient .result
 positive c =
-    let f = c .before .before in
-    let l = f .before .before in
-    each-positive (l .before .before .before .before .before .before .pre .0) (l .loop .inv) (omega arith) _ (f .free-count .ensures) _
-    (c .coefficient .ensures) (c .before .if1 .taken)
+    let f = c .before in
+    let l = f .before .before .before in
+    each-positive (l .before .before .before .before .before .before .pre .0) (l .loop .inv) (omega arith) _ (f .free-of .ensures) _
+    (f .before .coefficient .ensures) (c .if1 .taken)
 
 div-value : tie.Need-div-value Inv-loop μ-loop
 div-value c = positive c
@@ -57,12 +60,12 @@ write-digits-requires c κs =
     (omega (arith, c .before .before .before .before .loop-test .taken))
 
 -- where the index is past those without a pivot, a row is left
-row-left : (c : tie.Else1 Inv-loop μ-loop) → 0 < c .before .before .before .loop .rows
+row-left : (c : tie.Else1 Inv-loop μ-loop) → 0 < c .before .before .before .before .loop .rows
 row-left c =
     let f = c .before in
-    let l = f .before .before in
-    rows-positive (l .before .before .before .before .before .before .pre .0) (l .loop .inv) (omega (arith, f .before .loop-test .taken)) _
-    (f .free-count .ensures) (c .if1 .left)
+    let l = f .before .before .before in
+    rows-positive (l .before .before .before .before .before .before .pre .0) (l .loop .inv) (omega (arith, f .before .before .loop-test .taken)) _
+    (f .free-of .ensures) (c .if1 .left)
 
 sub-write-pivot : tie.Need-sub-write-pivot Inv-loop μ-loop
 sub-write-pivot c = row-left (c .before)
@@ -71,18 +74,18 @@ write-pivot-requires : tie.Need-write-pivot-requires Inv-loop μ-loop
 write-pivot-requires c κs =
     let e = c .before in
     let f = e .before in
-    let l = f .before .before in
-    pivot-asked (l .before .before .before .before .before .before .pre .0) (l .loop .inv) (omega (arith, f .before .loop-test .taken)) _
-    (f .free-count .ensures) (e .if1 .left)
+    let l = f .before .before .before in
+    pivot-asked (l .before .before .before .before .before .before .pre .0) (l .loop .inv) (omega (arith, f .before .before .loop-test .taken)) _
+    (f .free-of .ensures) (e .if1 .left)
 
 add-pivot-requires : tie.Need-add-pivot-requires Inv-loop μ-loop
 add-pivot-requires c κs =
     let e = c .before .before .before .before in
     let f = e .before in
-    let l = f .before .before in
+    let l = f .before .before .before in
     let asked =
-    bit-asked (l .before .before .before .before .before .before .pre .0) (l .loop .inv) (omega (arith, f .before .loop-test .taken)) _
-    (f .free-count .ensures) (e .if1 .left) in
+    bit-asked (l .before .before .before .before .before .before .pre .0) (l .loop .inv) (omega (arith, f .before .before .loop-test .taken)) _
+    (f .free-of .ensures) (e .if1 .left) in
     (asked .0, asked .1, omega (arith, asked .2))
 
 sub-rows : tie.Need-sub-rows Inv-loop μ-loop
@@ -94,23 +97,23 @@ loop-less c = omega (arith, c .before .before .before .before .before .before .b
 loop-again : tie.Need-loop-again Inv-loop μ-loop
 loop-again c =
     let g = c .before .before .before .before in
-    let f = g .before .before in
-    let l = f .before .before in
+    let f = g .before in
+    let l = f .before .before .before in
     let a = l .before .before .before .before .before .before .pre .0 in
-    unranking-free a (l .loop .inv) (omega (arith, f .before .loop-test .taken)) _ (f .free-count .ensures) _ (g .coefficient .ensures)
-    (g .before .if1 .taken) (c .before .before .write-digits .ensures .0)
+    unranking-free a (l .loop .inv) (omega (arith, f .before .before .loop-test .taken)) _ (f .free-of .ensures) _ (f .before .coefficient .ensures)
+    (g .if1 .taken) (c .before .before .write-digits .ensures .0)
 
 loop-less-2 : tie.Need-loop-less-2 Inv-loop μ-loop
-loop-less-2 c = omega (arith, c .before .before .before .before .before .before .before .loop-test .taken)
+loop-less-2 c = omega (arith, c .before .before .before .before .before .before .before .before .loop-test .taken)
 
 loop-again-2 : tie.Need-loop-again-2 Inv-loop μ-loop
 loop-again-2 c =
     let e = c .before .before .before .before .before in
     let f = e .before in
-    let l = f .before .before in
+    let l = f .before .before .before in
     let a = l .before .before .before .before .before .before .pre .0 in
     rw (c .add-pivot .ensures)
-    (unranking-pivot a (l .loop .inv) (omega (arith, f .before .loop-test .taken)) _ (f .free-count .ensures) (e .if1 .left)
+    (unranking-pivot a (l .loop .inv) (omega (arith, f .before .before .loop-test .taken)) _ (f .free-of .ensures) (e .if1 .left)
     (c .before .before .before .write-pivot .ensures))
 
 same-length : tie.Need-same-length Inv-loop μ-loop
@@ -132,8 +135,8 @@ unrank-spec =
     clear-requires
     loop-holds
     sub-c
-    free-count-requires
     coefficient-requires
+    free-of-requires
     div-value
     rem-rest
     write-digits-requires

@@ -3,6 +3,7 @@
 --   odd-size        == a size that is not 2 and not one of polynomials is odd
 --   last-odd        == the odd size that is neither 3 nor 5
 --   isEven q        == the test by which the code tells the even sizes, and not-even == the others
+--   last-even       == the even size that is neither 2 nor 4
 --   elementBits q   == the number of zeros behind the highest bit of q, where q is even the bits of an element
 --   even-bits       == then it is small, and q is 2 to it
 --   by-four         == the sizes of polynomials are those that 4 divides
@@ -53,6 +54,19 @@ uneven =
 
 pub not-even : (q : ℕ) → T (isFieldSize q) → (q % 2 ≡ 0 → ⊥) → T (member q oddSizes)
 not-even q size odd = uneven q size (holds _ (ap not (ne-eqb (q % 2) 0 odd)))
+
+abbrev evenSizes : List ℕ
+evenSizes = 2 ∷ 4 ∷ 8 ∷ []
+
+even-size : (q : ℕ) → T (isFieldSize q) → T (isEven q) → T (member q evenSizes)
+unfolding isFieldSize
+even-size =
+    forEach (λ q. T (isEven q) → T (member q evenSizes)) (λ q. whenever (isEven q) (T (member q evenSizes)) (decided (member q evenSizes)))
+    fieldSizes .shows tt
+
+pub last-even : (q : ℕ) → T (isFieldSize q) → q % 2 ≡ 0 → (q ≡ 2 → ⊥) → (q ≡ 4 → ⊥) → q ≡ 8
+last-even q size even two four =
+    member-last q 8 (member-next q 4 (8 ∷ []) (member-next q 2 (4 ∷ 8 ∷ []) (even-size q size (holds _ (eq-eqb (q % 2) 0 even))) two) four)
 
 abbrev pub elementBits : ℕ → ℕ
 elementBits q = trailingZeros 64 q

@@ -10,8 +10,17 @@ use Rattle.partitions.proofs.box_count.Tie as tie
 returns : tie.Need-returns
 returns c = sym (box-beyond _ _ _ (c .if1 .taken))
 
+cast-limit : tie.Need-cast-limit
+cast-limit c = search needs
+
+cast-limit-2 : tie.Need-cast-limit-2
+cast-limit-2 c = search needs
+
 mul-limit : tie.Need-mul-limit
 mul-limit c = let a = c .before .args in omega (arith, box-short (a .n) (omega arith) (a .k) (omega arith))
+
+cast-limit-3 : tie.Need-cast-limit-3
+cast-limit-3 c = omega (arith, mul-limit c)
 
 returns-2 : tie.Need-returns-2
 returns-2 c = sym (box-limit _ _ _ _ (omega arith) (c .if2 .taken))
@@ -26,4 +35,15 @@ returns-3 : tie.Need-returns-3
 returns-3 c = search needs
 
 pub box-count-spec : {M : Type 1} → statement M
-box-count-spec = tie.close (tie.spec returns mul-limit returns-2 box-begin-requires box-entry-requires returns-3)
+box-count-spec =
+    tie.close
+    (tie.spec
+    returns
+    cast-limit
+    cast-limit-2
+    mul-limit
+    cast-limit-3
+    returns-2
+    box-begin-requires
+    box-entry-requires
+    returns-3)
