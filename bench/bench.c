@@ -480,11 +480,33 @@ static void judge(const char *name, bool agree)
     check_group_end();
 }
 
-static bool numbers_agree(timed_call *library, timed_call *other)
+/* All that a call but a batch leaves, and the number that it answers. */
+typedef struct {
+    uint64_t number;
+    uint8_t out[PLAIN_ENTRIES], answer[PLAIN_ANSWER];
+} outcome;
+
+static outcome outcome_of(timed_call *call, unsigned input)
 {
-    for (unsigned input = 0; input < INPUTS; input++)
-        if (library(input) != other(input))
+    outcome left = {0};
+    memset(out, PAINT, sizeof out);
+    memset(answer, PAINT, sizeof answer);
+    left.number = call(input);
+    memcpy(left.out, out, sizeof out);
+    memcpy(left.answer, answer, sizeof answer);
+    return left;
+}
+
+/* Whether both answer and leave the same; after Take the receivers too, which are as long on both sides. */
+static bool outcomes_agree(timed_call *library, timed_call *other)
+{
+    for (unsigned input = 0; input < INPUTS; input++) {
+        outcome one = outcome_of(library, input), two = outcome_of(other, input);
+        if (one.number != two.number || memcmp(one.out, two.out, sizeof one.out) != 0 ||
+            memcmp(one.answer, two.answer, sizeof one.answer) != 0 ||
+            memcmp(&step.receiver, &other_step.receiver, sizeof other_step.receiver) != 0)
             return false;
+    }
     return true;
 }
 
@@ -499,12 +521,11 @@ static bool batches_agree(timed_call *other)
 {
     static uint8_t matrices_left[BATCH_ROOM], answers_left[BATCH];
     paint_batch();
-    batch_library(0);
+    uint64_t refusal = batch_library(0);
     memcpy(matrices_left, batch_matrices, sizeof matrices_left);
     memcpy(answers_left, batch_answers, sizeof answers_left);
     paint_batch();
-    other(0);
-    return memcmp(matrices_left, batch_matrices, sizeof matrices_left) == 0 &&
+    return refusal == other(0) && memcmp(matrices_left, batch_matrices, sizeof matrices_left) == 0 &&
            memcmp(answers_left, batch_answers, sizeof answers_left) == 0;
 }
 
@@ -592,7 +613,7 @@ static void time_units(const char *kind, const char *name, unsigned inputs, unsi
 
 static void compare_inputs(const char *kind, const char *name, timed_call *library, timed_call *other)
 {
-    judge(name, numbers_agree(library, other));
+    judge(name, outcomes_agree(library, other));
     time_units(kind, name, INPUTS, SAMPLES, 1, library, other);
 }
 

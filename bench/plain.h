@@ -1,7 +1,7 @@
 /*
  * Plain C that does what the library's calls do: the same tests, refusals and answers, through the same interfaces, as
  * a C programmer tunes it by hand. It is what the library's speed is measured against. It shares nothing with the
- * tests, and no test leans on it; the bench compares its answers with the library's before it times the two.
+ * tests; the bench compares its answers with the library's before it times the two, and the gate makes these comparisons.
  */
 #ifndef PLAIN_H
 #define PLAIN_H

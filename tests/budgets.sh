@@ -4,23 +4,24 @@
 # them, and is held to them.
 #   tests/budgets.sh
 # It needs target/cortex-m0, which bin/build makes, gcc, arm-none-eabi-gcc and qemu-system-arm. The last line is 'budgets: N passed, M failed'.
+# shellcheck disable=SC2317 # functions that `passes` calls
 set -u
 cd "$(dirname "$0")/.." || exit 1
 to=target/tests/machines
 library=target/cortex-m0/libpandrwyg.a
-passed=0
-failed=0
+# shellcheck source=tests/passes.sh
+. tests/passes.sh
 
-# Tests that the measure $2 of $1 is at most $3, and is told in the row of docs/C.md that begins with the cell $1.
+# Whether a cell of docs/C.md's row that begins with the cell $1 tells the number $2, with commas.
+is_told() {
+    awk -F ' *[|] *' -v row="$1" -v number="$2" '
+        $2 == row { for (at = 3; at < NF; at++) { gsub(/,/, "", $at); found += $at == number } } END { exit !found }' docs/C.md
+}
+
+# Tests that the measure $2 of $1 is at most $3, and is told by docs/C.md.
 within() {
-    told=$(printf '%s' "$2" | sed -e ':more' -e 's/\([0-9]\)\([0-9]\{3\}\)\($\|,\)/\1,\2\3/' -e 't more')
-    if [ -n "$2" ] && [ "$2" -le "$3" ] && awk -F ' *[|] *' -v row="$1" -v cell="$told" \
-        '$2 == row { for (at = 3; at < NF; at++) found += $at == cell } END { exit !found }' docs/C.md; then
-        passed=$((passed + 1))
-    else
-        failed=$((failed + 1))
-        printf '  failed: %s: %s, at most %s, and told by docs/C.md\n' "$1" "$told" "$3"
-    fi
+    passes "$1: $2, at most $3" test "${2:--1}" -ge 0 -a "${2:-0}" -le "$3"
+    passes "$1: $2, told by docs/C.md" is_told "$1" "$2"
 }
 
 # shellcheck disable=SC2086 # a list of words
@@ -50,7 +51,8 @@ mkdir -p "$to" &&
     arm -T examples/controller/controller.ld -o "$to/budget.elf" examples/controller/start.c tests/machines/budget.c "$to/settings.c" \
         "$library" -lgcc &&
     timeout 600 qemu-system-arm -M microbit -nographic -monitor none -serial none -icount shift=0 \
-        -semihosting-config enable=on,target=native -kernel "$to/budget.elf" </dev/null >"$to/budget.said" 2>&1 || failed=1
+        -semihosting-config enable=on,target=native -kernel "$to/budget.elf" </dev/null >"$to/budget.said" 2>&1
+passes 'the firmware that measures' test $? -eq 0
 cat "$to/budget.said"
 
 within 'Draw' "$(said_of draw 2)" 30000
@@ -67,5 +69,4 @@ within 'Receive of 64 rows of n - 1 dimensions' "$(said_of receive_longest 3)" 1
 within 'Draw and Receive' "$(flash_of draw receive)" 16384
 within 'All three' "$(flash_of draw draw_batch receive)" 16384
 within 'Writable data' "$(arm-none-eabi-size "$library" | awk 'NR > 1 { data += $2 + $3 } END { print data }')" 0
-printf 'budgets: %s passed, %s failed\n' "$passed" "$failed"
-[ "$failed" -eq 0 ]
+finish budgets

@@ -3,25 +3,14 @@
 # result is passed over, and no memory for the guards.
 #   tests/header.sh COMPILER
 # The last line is 'header, COMPILER: N passed, M failed'.
+# shellcheck disable=SC2317 # functions that `passes` calls
 set -u
 cd "$(dirname "$0")/.." || exit 1
 compiler=$1
 object=$(mktemp) || exit 1
 trap 'rm -f "$object" "$object.said"' EXIT
-passed=0
-failed=0
-
-# Tests that the rest of the words is a command that ends with 0; $1 names the test.
-passes() {
-    name=$1
-    shift
-    if "$@"; then
-        passed=$((passed + 1))
-    else
-        failed=$((failed + 1))
-        printf '  failed: %s\n' "$name"
-    fi
-}
+# shellcheck source=tests/passes.sh
+. tests/passes.sh
 
 compile() {
     "$compiler" -Iinclude -c "$@" -o "$object" >"$object.said" 2>&1
@@ -62,5 +51,4 @@ for standard in $standards; do
         passes "$call passed over in $standard" warned $language -std="$standard" -DIGNORE_$call tests/header.c
     done
 done
-printf 'header, %s: %s passed, %s failed\n' "$compiler" "$passed" "$failed"
-[ "$failed" -eq 0 ]
+finish "header, $compiler"

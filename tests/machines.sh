@@ -12,26 +12,8 @@ here=tests/machines
 to=target/tests/machines
 tools=target/kit/on/$(uname -m)/toolchain/own
 strict='-std=c11 -Wall -Wextra -Werror -Iinclude -Itests -Itests/machines'
-passed=0
-failed=0
-
-# Tests that the rest of the words is a command that ends with 0; $1 names the test.
-passes() {
-    name=$1
-    shift
-    if "$@"; then
-        passed=$((passed + 1))
-    else
-        failed=$((failed + 1))
-        printf '  failed: %s\n' "$name"
-    fi
-}
-
-finish() {
-    printf '%s: %s passed, %s failed\n' "$machine" "$passed" "$failed"
-    [ "$failed" -eq 0 ]
-    exit
-}
+# shellcheck source=tests/passes.sh
+. tests/passes.sh
 
 # The archive's first bytes tell the format, and of an ELF file the bytes 18 and 19 the machine.
 is_format() {
@@ -115,7 +97,7 @@ build_list_module() {
 }
 
 passes 'the list for the host is built' build_host
-[ "$failed" -eq 0 ] || finish
+[ "$failed" -eq 0 ] || finish "$machine"
 passes 'the list of the second implementation' make_list second "$to/second"
 passes 'the list through the x86-64 archive' make_list x86_64 "$to/x86_64"
 passes 'x86-64 and the second implementation agree' same x86_64
@@ -141,4 +123,4 @@ case $machine in
         passes "$machine is a machine that has a test" false
         ;;
 esac
-finish
+finish "$machine"

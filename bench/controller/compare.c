@@ -1,7 +1,6 @@
 /*
- * Measures the library's Draw and Receive beside plain C on the emulated controller, in instructions a call: the emulator
- * runs one in a nanosecond of the board's time (-icount shift=0), so a run gives the same numbers as every other. Both are
- * asked for the same inputs, and must answer and leave the same.
+ * Measures the library's Draw and Receive beside plain C on the emulated controller, in instructions a call, the same in
+ * every run. Both are asked for the same inputs, and must answer and leave the same.
  */
 #include "firmware.h"
 #include "pandrwyg.h"
@@ -21,17 +20,6 @@ void *memmove(void *to, const void *from, size_t length)
     return to;
 }
 
-/* ---- The timer of the nRF51, at 16 MHz with 32 bits ---- */
-
-static volatile uint32_t *const timer = (volatile uint32_t *)0x40008000;
-enum { START = 0x000 / 4, CAPTURE = 0x040 / 4, BITS = 0x508 / 4, PRESCALER = 0x510 / 4, CAPTURED = 0x540 / 4 };
-
-static uint32_t ticks(void)
-{
-    timer[CAPTURE] = 1;
-    return timer[CAPTURED];
-}
-
 /* ---- Inputs ---- */
 
 typedef struct {
@@ -41,16 +29,6 @@ typedef struct {
 static setting now;
 static uint64_t numbering, row_count, indexes[INPUTS];
 static uint8_t rows[PLAIN_ROWS * PLAIN_LENGTH], left[2][PLAIN_ENTRIES];
-
-static uint32_t random_state = 0x9E3779B9;
-
-static uint32_t random_next(void)
-{
-    random_state ^= random_state << 13;
-    random_state ^= random_state >> 17;
-    random_state ^= random_state << 5;
-    return random_state;
-}
 
 static size_t width(void)
 {
@@ -103,9 +81,9 @@ static uint32_t failures;
 
 static uint32_t __attribute__((noinline)) time_of(call *measured, unsigned input, uint8_t *to, uint32_t *refusal)
 {
-    uint32_t begin = ticks();
+    uint32_t begin = firmware_ticks();
     *refusal = measured(input, to);
-    return ticks() - begin;
+    return firmware_ticks() - begin;
 }
 
 /* Adds the ticks of both calls on the same input, and compares what they answer and leave. */
@@ -123,32 +101,15 @@ static void add_times(call *library, call *plain, unsigned input, uint32_t times
             failures++;
 }
 
-/* ---- Saying ---- */
-
-static void say_number(uint32_t number)
-{
-    char digits[11];
-    unsigned place = sizeof digits - 1;
-    digits[place] = '\0';
-    do {
-        digits[--place] = (char)('0' + number % 10);
-        number /= 10;
-    } while (number > 0);
-    firmware_say(digits + place);
-}
-
-/* CALL q,n,k,numbering LIBRARY PLAIN */
+/* Says CALL q,n,k,numbering LIBRARY PLAIN, the last two the instructions of a call. */
 static void say_times(const char *name, const uint32_t times[2])
 {
-    const uint32_t at[] = {now.q, now.n, now.k, (uint32_t)numbering};
     firmware_say(name);
-    for (unsigned place = 0; place < 4; place++) {
-        firmware_say(place == 0 ? " " : ",");
-        say_number(at[place]);
-    }
+    firmware_say(" ");
+    firmware_say_setting(now.q, now.n, now.k, numbering);
     for (unsigned side = 0; side < 2; side++) {
         firmware_say(" ");
-        say_number((uint32_t)((uint64_t)times[side] * 125 / 2 / INPUTS));
+        firmware_say_number(firmware_instructions(times[side]) / INPUTS);
     }
     firmware_say("\n");
 }
@@ -157,8 +118,7 @@ static void compare_draw(void)
 {
     uint32_t times[2] = {0, 0};
     for (unsigned input = 0; input < INPUTS; input++) {
-        uint64_t high = random_next();
-        indexes[input] = (high << 32 | random_next()) % plain_gaussian[now.q][now.n][now.k];
+        indexes[input] = random_wide() % plain_gaussian[now.q][now.n][now.k];
         add_times(draw_library, draw_plain, input, times);
     }
     say_times("draw", times);
@@ -182,9 +142,7 @@ int main(void)
 {
     static const setting chosen[] = {{2, 6, 3}, {2, 16, 6}, {2, 16, 10}, {3, 12, 5}, {3, 16, 3}, {4, 10, 4}, {4, 16, 2},
                                      {5, 10, 4}, {7, 9, 4}, {8, 8, 3}, {8, 16, 15}};
-    timer[BITS] = 3;
-    timer[PRESCALER] = 0;
-    timer[START] = 1;
+    firmware_start_timer();
     for (unsigned place = 0; place < 2 * sizeof chosen / sizeof *chosen; place++) {
         now = chosen[place / 2];
         numbering = 1 + place % 2;

@@ -1,5 +1,6 @@
 #include "calls.h"
 #include "pandrwyg.h"
+#include "portable.h"
 #include "refusals.h"
 
 #include <stdbool.h>
@@ -12,14 +13,8 @@ enum { PAINT = 0xA5, FENCE = 8, WIDTH = 16, MATRIX = WIDTH * WIDTH, MOST_ROWS = 
 
 static void say_number(uint64_t number)
 {
-    char digits[21];
-    unsigned place = sizeof digits - 1;
-    digits[place] = '\0';
-    do {
-        digits[--place] = (char)('0' + number % 10);
-        number /= 10;
-    } while (number > 0);
-    say(digits + place);
+    decimal_text text;
+    say(decimal(&text, number));
 }
 
 static void say_digest(uint64_t number)
@@ -301,28 +296,10 @@ static void make_refusals(void)
 
 /* ---- Pseudo-random calls ---- */
 
-static uint32_t random_state = 0x9E3779B9;
-
-/* Marsaglia's xorshift with 32 bits. */
-static uint32_t random_next(void)
-{
-    random_state ^= random_state << 13;
-    random_state ^= random_state >> 17;
-    random_state ^= random_state << 5;
-    return random_state;
-}
-
 /* A number below a bound, which is above 0 and at most 65,536. */
 static uint32_t random_below(uint32_t bound)
 {
     return (random_next() >> 8) % bound;
-}
-
-static uint64_t random_wide(void)
-{
-    uint64_t high = random_next();
-    uint64_t low = random_next();
-    return high << 32 | low;
 }
 
 /* An index, mostly below the count: near the first or the last at every scale, or anywhere. */
