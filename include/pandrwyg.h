@@ -62,8 +62,8 @@ extern "C" {
 #endif
 
 /*
- * The library's symbols, one for each call below; a length has 64 bits on every machine. They take no null pointer and no
- * length beyond their buffer's. The calls below, which have these symbols' arguments, keep both out: a program calls those.
+ * The library's symbols, one for each call below, with its arguments; a length has 64 bits on every machine. They take no
+ * null pointer and no length of more than PTRDIFF_MAX bytes, which the calls below keep out: a program calls those.
  */
 PANDRWYG_USE_RESULT
 uint32_t pandrwyg_draw_raw(uint64_t q, uint64_t n, uint64_t k, uint64_t numbering, uint64_t index,
