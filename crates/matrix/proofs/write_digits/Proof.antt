@@ -5,7 +5,6 @@ use Prim.Native.Nat.{ℕ, suc, _-_, _*_, _+_, _^_, _/_, _%_, _<_, _≤_}
 use native.Mathlib.Nat.{mul-le-mul-right}
 use native.Mathlib.Omega.{arith}
 use lib.ListN.{length}
-use borrow.Author.Needs.{needs}
 use Rattle.matrix.specs.Shape.{digitAt}
 use Rattle.matrix.specs.laws.WriteColumn.{WrittenFrom, written-start, written-all, written-step, step-digit, rest-whole}
 use Rattle.matrix.proofs.write_digits.Statement.{statement}
