@@ -10,13 +10,10 @@ use mathlib.Core.Path.{_≡_, refl, ap, ap₂, sym, _∙_, subst}
 use mathlib.Core.List.{List, _++_}
 use mathlib.Core.Logic.{_↔_}
 use Prim.Native.Nat.{ℕ, _+_, _*_, _-_}
-use lib.Dec.{T}
 use lib.ListN.{length, replicate}
 use Rattle.refusal.specs.Refusal.{unlessRefused}
 use Rattle.refusal.specs.laws.First.{done}
-use Rattle.field.specs.Field.{isFieldSize}
 use Rattle.field.specs.FieldLaws.{Laws}
-use Rattle.field.specs.laws.Decide.{laws}
 use Rattle.linear.specs.Span.{All, Row}
 use Rattle.linear.specs.Eliminate.{dimension}
 use Rattle.linear.specs.laws.Every.{all-append}
@@ -38,12 +35,12 @@ use Rattle.pool.specs.laws.PoolAccepted.{PoolAccepted, alike-sizes, pool-accept
 use Rattle.pool.specs.declared.PoolAnswer.{PoolAnswer}
 use Rattle.pool.specs.laws.Pooling.{field-laws, first-held, second-held}
 
-module _ (q : ℕ) (size : T (isFieldSize q)) (n : ℕ) (us vs : List (List ℕ)) (hu : All (Row q n) us) (hv : All (Row q n) vs) where
+module _ (q : ℕ) (law : Laws q) (n : ℕ) (us vs : List (List ℕ)) (hu : All (Row q n) us) (hv : All (Row q n) vs) where
   pub joint-exactly : (d : ℕ) (m : List ℕ) → JointSpace q n us vs d m ↔ ((d ≡ jointDimension q n us vs) × (m ≡ jointOf q n us vs))
-  joint-exactly d m = (joint-unique q (laws q size) n us vs hu hv d m, λ e. rw (e .0, e .1) (joint-space q (laws q size) n us vs hu hv))
+  joint-exactly d m = (joint-unique q law n us vs hu hv d m, λ e. rw (e .0, e .1) (joint-space q law n us vs hu hv))
 
   pub common-exactly : (d : ℕ) (m : List ℕ) → CommonSpace q n us vs d m ↔ ((d ≡ commonDimension q n us vs) × (m ≡ commonOf q n us vs))
-  common-exactly d m = (common-unique q (laws q size) n us vs hu hv d m, λ e. rw (e .0, e .1) (common-space q (laws q size) n us vs hu hv))
+  common-exactly d m = (common-unique q law n us vs hu hv d m, λ e. rw (e .0, e .1) (common-space q law n us vs hu hv))
 
 -- the dimension of the rows held is the receiver's
 held-dimension : (r : Receiver) → length (r .entries) ≡ 256 → Sound r → dimension (r .q) (r .n) (heldRows r) ≡ r .dimension
@@ -79,11 +76,11 @@ module _ (a b : Receiver) (whole-a : length (a .entries) ≡ 256) (whole-b : len
 
   J : JointSpace (a .q) (a .n) (heldRows a) (heldRows b) (jointDimension (a .q) (a .n) (heldRows a) (heldRows b))
       (jointOf (a .q) (a .n) (heldRows a) (heldRows b))
-  J = joint-space (a .q) law (a .n) (heldRows a) (heldRows b) first second
+  J = joint-exactly (a .q) law (a .n) (heldRows a) (heldRows b) first second _ _ .1 (refl, refl)
 
   C : CommonSpace (a .q) (a .n) (heldRows a) (heldRows b) (commonDimension (a .q) (a .n) (heldRows a) (heldRows b))
       (commonOf (a .q) (a .n) (heldRows a) (heldRows b))
-  C = common-space (a .q) law (a .n) (heldRows a) (heldRows b) first second
+  C = common-exactly (a .q) law (a .n) (heldRows a) (heldRows b) first second _ _ .1 (refl, refl)
 
   answer : PoolAnswer
   answer = (poolOf a b (length joint) (length common)) .answer

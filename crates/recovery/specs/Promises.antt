@@ -8,7 +8,7 @@
 --   reduce-ones, receive-ones, close-ones == order 2: "its count of ones is the dimension", of what each of the three calls answers to
 --                     whatever it is given, refusals too
 -- And which values two definitions have that contracts cite, so that a reader need not believe the text of these:
---   reduced-matrix-exactly == the reduced matrix of rows over the field, and its number of rows, are the one reduced matrix with their span
+--   reduced-matrix-exactly == the reduced matrix of rows over any field, and its number of rows, are the one reduced matrix with their span
 --   drawn-exactly          == the matrix that is drawn for an index below the count is the one reduced matrix with that index
 -- Assumes nothing.
 use mathlib.Core.Path.{_≡_, refl, ap, ap₂, sym, _∙_}
@@ -18,10 +18,9 @@ use mathlib.Core.Logic.{_↔_}
 use Prim.Native.Nat.{ℕ, _*_, _-_, _≤_, _<_}
 use native.Mathlib.Omega.{arith}
 use lib.Count.{ones}
-use lib.Dec.{T}
 use lib.ListN.{length, replicate}
 use Rattle.refusal.specs.laws.First.{done}
-use Rattle.field.specs.Field.{isFieldSize}
+use Rattle.field.specs.FieldLaws.{Laws}
 use Rattle.field.specs.laws.Decide.{laws}
 use Rattle.counts.specs.Gaussian.{gaussian}
 use Rattle.settings.specs.Settings.{settingsRefusal}
@@ -52,6 +51,14 @@ use Rattle.recovery.specs.Demand.{told}
 use Rattle.recovery.specs.laws.After.{accepted-rows}
 use Rattle.recovery.specs.laws.RecoverRows.{receive-rows, close-after}
 
+pub reduced-matrix-exactly : (q : ℕ) → Laws q → (n : ℕ) (rows : List (List ℕ)) → All (Row q n) rows
+    → (d : ℕ) (m : List ℕ)
+    → (Reduced q n d m × SameSpan q n (rowsOf n d m) rows) ↔ ((d ≡ dimension q n rows) × (m ≡ reducedOf q n rows))
+reduced-matrix-exactly q law n rows h d m = (
+  λ x. reducedOf-unique q law n rows h d m (x .0) (x .1),
+  λ e. rw (e .0, e .1) (reducedOf-reduced q law n rows h, reducedOf-span q law n rows h),
+)
+
 pub reduce-spans : (q n r : ℕ) (input output : List ℕ) → reduceRefusal q n r input (length output) ≡ 0
     → (d v : ℕ) × (m : List ℕ)
     × (reductionDimension (reduceOf q n r input (length output)) ≡ d)
@@ -66,16 +73,16 @@ reduce-spans q n r input output z =
     let rows = rowsOf n r input in
     let law = laws q (a .field) in
     let h = input-rows q n r input (a .field) (a .sized) (a .below) in
-    let R = reducedOf-reduced q law n rows h in (
+    let x = reduced-matrix-exactly q law n rows h (dimension q n rows) (reducedOf q n rows) .1 (refl, refl) in (
       dimension q n rows,
       identifying n (dimension q n rows) (reducedOf q n rows),
       reducedOf q n rows,
       reduce-told q n r input (length output) _ refl .1 ∙ sym (done _ _ _ z),
       reduce-told q n r input (length output) _ refl .2 ∙ sym (done _ _ _ z),
       vector-has q law n rows h _ _ .1 (refl, refl),
-      sym (done _ _ _ z) ∙ ap (λ x. reducedOf q n rows ++ replicate (n * n - x) 0) (R .size),
-      R,
-      reducedOf-span q law n rows h,
+      sym (done _ _ _ z) ∙ ap (λ x. reducedOf q n rows ++ replicate (n * n - x) 0) (x .0 .size),
+      x .0,
+      x .1,
     )
 
 module _ (q n k t : ℕ) (settings : settingsRefusal q n k ≡ 0) (known : isNumbering t ≡ true) where
@@ -96,14 +103,6 @@ module _ (q n k t : ℕ) (settings : settingsRefusal q n k ≡ 0) (known : isNum
   pub receive-more : (rows : List (List ℕ)) → All (Row q n) rows → length rows ≤ mostRows → (d v : ℕ) → HasVector q n rows d v → k < d
       → told (receiveOf q n k t (length rows) (join rows)) ≡ record { number = 9; index = 0; dimension = d; vector = v }
   receive-more rows h few d v has g = ap told (receive-rows q n k t settings known rows h few) ∙ more rows h d v has g
-
-pub reduced-matrix-exactly : (q : ℕ) → T (isFieldSize q) → (n : ℕ) (rows : List (List ℕ)) → All (Row q n) rows
-    → (d : ℕ) (m : List ℕ)
-    → (Reduced q n d m × SameSpan q n (rowsOf n d m) rows) ↔ ((d ≡ dimension q n rows) × (m ≡ reducedOf q n rows))
-reduced-matrix-exactly q size n rows h d m = (
-  λ x. reducedOf-unique q (laws q size) n rows h d m (x .0) (x .1),
-  λ e. rw (e .0, e .1) (reducedOf-reduced q (laws q size) n rows h, reducedOf-span q (laws q size) n rows h),
-)
 
 pub drawn-exactly : (q n k t : ℕ) → settingsRefusal q n k ≡ 0 → (i : ℕ) → i < gaussian q n k
     → (m : List ℕ) → (Reduced q n k m × (indexOf q n k t m ≡ i)) ↔ (m ≡ drawn q n k t i)
