@@ -3,8 +3,9 @@
 --                  before the call
 --   answer      == document 01's numbers for the call, by the definitions that the contracts cite: the refusal number (0 for none), then
 --                  what the call answers (count; index; dimension, of Pool two; identifying vector; 1 for "raised"; 1 for "idle"), then the
---                  receiver and the lent buffers afterwards; of the list program, all that it writes; of an index, its summands; of the
---                  line writer, 1 where the piece fits, how far the buffer is then filled, and the buffer
+--                  receiver and the lent buffers afterwards; of the list program, all that it writes, and by settings alone the refusal
+--                  that it writes; of an index, its summands; of the line writer, 1 where the piece fits, how far the buffer is then
+--                  filled, and the buffer
 --   Example     == a call and what it must answer
 --   lent size   == a buffer painted with 165s
 --   receiver, image == a receiver by its fields, entries of 0 after the given ones; and back
@@ -15,7 +16,7 @@ use lib.ListN.{length, replicate}
 use Rattle.basics.specs.Sum.{bit}
 use Rattle.settings.specs.Settings.{countOf, countNumber, countValue}
 use Rattle.ferrers.specs.Ferrers.{size, diagram, diagramPlace, largerDiagrams, tableauValue}
-use Rattle.listing.specs.Listing.{listingOutput}
+use Rattle.listing.specs.Listing.{listRefusal, listingOutput}
 use Rattle.text.specs.Piece.{fits, placeAfter, bufferAfter}
 use Rattle.draw.specs.Draw.{drawRefusal, drawBuffer}
 use Rattle.draw_batch.specs.Batch.{batchRefusal, batchMatrices, batchAnswers}
@@ -46,6 +47,7 @@ pub data Call : Type 0 where
   close : (r : Receiver) (t : ℕ) → Call
   pool : (a b : Receiver) (joint common : List ℕ) → Call
   list : (input : List ℕ) → Call
+  listable : (q n k : ℕ) → Call
   summands : (q n k : ℕ) (m : List ℕ) → Call
   write : (buffer : List ℕ) (filled : ℕ) (piece : List ℕ) → Call
 
@@ -92,6 +94,7 @@ answer (pool a b joint common) =
     ++ jointBuffer a b joint (length common)
     ++ commonBuffer a b (length joint) common
 answer (list input) = listingOutput input
+answer (listable q n k) = listRefusal q n k ∷ []
 answer (summands q n k m) =
     largerDiagrams q k (n - k) (size n k m)
     ∷ q ^ size n k m * diagramPlace k (n - k) (diagram n k m) (size n k m)

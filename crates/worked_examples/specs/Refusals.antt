@@ -7,7 +7,7 @@ use lib.ListN.{replicate}
 use Rattle.receiver.specs.declared.Receiver.{Receiver}
 use Rattle.worked_examples.specs.Answer.{Example, _⇒_, lent, receiver, image, paper}
 use Rattle.worked_examples.specs.Answer.{count, draw, drawBatch, number, convert, reduce, receive, receiveC}
-use Rattle.worked_examples.specs.Answer.{start, takeValue, takeLent, close, pool, list, write}
+use Rattle.worked_examples.specs.Answer.{start, takeValue, takeLent, close, pool, list, listable, write}
 
 -- receivers of 2,3,2 that hold no row, the row 110, the rows 101/011, and all three unit rows; one of 2,3,1 that holds 010
 abbrev noRows : Receiver
@@ -103,6 +103,7 @@ refusals =
     ∷ (count 2 17 0 ⇒ (2 ∷ 0 ∷ []))
     ∷ (count 2 3 4 ⇒ (2 ∷ 0 ∷ []))
     ∷ (count 7 10 5 ⇒ (3 ∷ 0 ∷ []))
+    ∷ (count 3 14 4 ⇒ (3 ∷ 0 ∷ []))
     ∷ (count 6 17 1 ⇒ (1 ∷ 0 ∷ []))
     ∷ (count 2 17 8 ⇒ (2 ∷ 0 ∷ []))
     -- and where none applies: each size, and the longest row
@@ -113,6 +114,8 @@ refusals =
     ∷ (count 7 2 1 ⇒ (0 ∷ 8 ∷ []))
     ∷ (count 8 2 1 ⇒ (0 ∷ 9 ∷ []))
     ∷ (count 7 16 16 ⇒ (0 ∷ 1 ∷ []))
+    -- and a count above 2^63
+    ∷ (count 8 10 3 ⇒ (0 ∷ 10729268895402608265 ∷ []))
     -- Draw: each refusal alone leaves the buffer
     ∷ (draw 6 3 1 1 0 (lent 3) ⇒ (1 ∷ (lent 3)))
     ∷ (draw 2 17 1 1 0 (lent 3) ⇒ (2 ∷ (lent 3)))
@@ -166,6 +169,7 @@ refusals =
     ∷ (number 2 3 1 0 (0 ∷ 1 ∷ 0 ∷ []) ⇒ (10 ∷ 0 ∷ []))
     ∷ (number 2 3 1 3 (0 ∷ 1 ∷ 0 ∷ []) ⇒ (10 ∷ 0 ∷ []))
     ∷ (number 2 3 1 1 (0 ∷ 1 ∷ []) ⇒ (4 ∷ 0 ∷ []))
+    ∷ (number 2 3 1 1 (0 ∷ 1 ∷ 0 ∷ 0 ∷ []) ⇒ (4 ∷ 0 ∷ []))
     ∷ (number 2 3 1 1 (0 ∷ 2 ∷ 0 ∷ []) ⇒ (6 ∷ 0 ∷ []))
     ∷ (number 2 3 1 1 (0 ∷ 0 ∷ 0 ∷ []) ⇒ (7 ∷ 0 ∷ []))
     ∷ (number 6 17 1 1 (0 ∷ 1 ∷ 0 ∷ []) ⇒ (1 ∷ 0 ∷ []))
@@ -192,6 +196,9 @@ refusals =
     ∷ (convert 6 17 1 1 2 0 ⇒ (1 ∷ 0 ∷ []))
     ∷ (convert 2 17 8 1 2 0 ⇒ (2 ∷ 0 ∷ []))
     ∷ (convert 7 10 5 3 2 0 ⇒ (3 ∷ 0 ∷ []))
+    ∷ (convert 6 3 1 1 3 0 ⇒ (1 ∷ 0 ∷ []))
+    ∷ (convert 2 17 1 1 3 0 ⇒ (2 ∷ 0 ∷ []))
+    ∷ (convert 7 10 5 1 3 0 ⇒ (3 ∷ 0 ∷ []))
     ∷ (convert 2 3 1 3 1 7 ⇒ (10 ∷ 0 ∷ []))
     ∷ (convert 2 3 1 1 3 7 ⇒ (10 ∷ 0 ∷ []))
     -- and where none applies the other index of the space
@@ -205,12 +212,15 @@ refusals =
     ∷ (reduce 2 17 0 [] [] ⇒ (2 ∷ 0 ∷ 0 ∷ []))
     ∷ (reduce 2 1 65 (replicate 65 1) (lent 1) ⇒ (13 ∷ 0 ∷ 0 ∷ (lent 1)))
     ∷ (reduce 2 2 1 (1 ∷ []) (lent 4) ⇒ (4 ∷ 0 ∷ 0 ∷ (lent 4)))
+    ∷ (reduce 2 2 1 (1 ∷ 0 ∷ 0 ∷ []) (lent 4) ⇒ (4 ∷ 0 ∷ 0 ∷ (lent 4)))
     ∷ (reduce 2 2 1 (1 ∷ 0 ∷ []) (lent 3) ⇒ (4 ∷ 0 ∷ 0 ∷ (lent 3)))
+    ∷ (reduce 2 2 1 (1 ∷ 0 ∷ []) (lent 5) ⇒ (4 ∷ 0 ∷ 0 ∷ (lent 5)))
     ∷ (reduce 2 2 1 (1 ∷ 2 ∷ []) (lent 4) ⇒ (6 ∷ 0 ∷ 0 ∷ (lent 4)))
     -- of two neighbours the first
     ∷ (reduce 6 17 0 [] [] ⇒ (1 ∷ 0 ∷ 0 ∷ []))
     ∷ (reduce 2 17 65 [] [] ⇒ (2 ∷ 0 ∷ 0 ∷ []))
     ∷ (reduce 2 2 65 [] (lent 4) ⇒ (13 ∷ 0 ∷ 0 ∷ (lent 4)))
+    ∷ (reduce 2 1 65 (replicate 65 1) (lent 2) ⇒ (13 ∷ 0 ∷ 0 ∷ (lent 2)))
     ∷ (reduce 2 2 1 (2 ∷ []) (lent 4) ⇒ (4 ∷ 0 ∷ 0 ∷ (lent 4)))
     ∷ (reduce 2 2 1 (1 ∷ 2 ∷ []) (lent 1) ⇒ (4 ∷ 0 ∷ 0 ∷ (lent 1)))
     -- and where none applies the reduced rows, then zeros, and the dimension, which is not the count of rows; 64 rows pass
@@ -225,6 +235,7 @@ refusals =
     ∷ (receive 2 3 1 3 1 (0 ∷ 1 ∷ 0 ∷ []) ⇒ (10 ∷ 0 ∷ 0 ∷ 0 ∷ []))
     ∷ (receive 2 1 1 1 65 (replicate 65 1) ⇒ (13 ∷ 0 ∷ 0 ∷ 0 ∷ []))
     ∷ (receive 2 3 1 1 1 (0 ∷ 1 ∷ []) ⇒ (4 ∷ 0 ∷ 0 ∷ 0 ∷ []))
+    ∷ (receive 2 3 1 1 1 (0 ∷ 1 ∷ 0 ∷ 0 ∷ []) ⇒ (4 ∷ 0 ∷ 0 ∷ 0 ∷ []))
     ∷ (receive 2 3 1 1 1 (0 ∷ 2 ∷ 0 ∷ []) ⇒ (6 ∷ 0 ∷ 0 ∷ 0 ∷ []))
     ∷ (receive 2 3 1 1 1 (0 ∷ 0 ∷ 0 ∷ []) ⇒ (8 ∷ 0 ∷ 0 ∷ 0 ∷ []))
     ∷ (receive 2 3 1 1 2 (1 ∷ 0 ∷ 0 ∷ 0 ∷ 1 ∷ 0 ∷ []) ⇒ (9 ∷ 0 ∷ 2 ∷ 6 ∷ []))
@@ -247,6 +258,7 @@ refusals =
     ∷ (receiveC 2 3 1 3 1 (0 ∷ 1 ∷ 0 ∷ []) (lent 11) ⇒ (10 ∷ (lent 11)))
     ∷ (receiveC 2 1 1 1 65 (replicate 65 1) (lent 11) ⇒ (13 ∷ (lent 11)))
     ∷ (receiveC 2 3 1 1 1 (0 ∷ 1 ∷ []) (lent 11) ⇒ (4 ∷ (lent 11)))
+    ∷ (receiveC 2 3 1 1 1 (0 ∷ 1 ∷ 0 ∷ 0 ∷ []) (lent 11) ⇒ (4 ∷ (lent 11)))
     ∷ (receiveC 2 3 1 1 1 (0 ∷ 1 ∷ 0 ∷ []) (lent 1) ⇒ (4 ∷ (lent 1)))
     ∷ (receiveC 2 3 1 1 1 (0 ∷ 1 ∷ 0 ∷ []) (lent 9) ⇒ (4 ∷ (lent 9)))
     ∷ (receiveC 2 3 1 1 1 (0 ∷ 1 ∷ 0 ∷ []) (lent 10) ⇒ (4 ∷ (lent 10)))
@@ -255,9 +267,13 @@ refusals =
     ∷ (receiveC 2 3 2 1 1 (0 ∷ 1 ∷ 0 ∷ []) (lent 11) ⇒ (8 ∷ (0 ∷ 0 ∷ 0 ∷ 0 ∷ 0 ∷ 0 ∷ 0 ∷ 0 ∷ 1 ∷ 2 ∷ 0 ∷ [])))
     ∷ (receiveC 2 3 1 1 2 (1 ∷ 0 ∷ 0 ∷ 0 ∷ 1 ∷ 0 ∷ []) (lent 11) ⇒ (9 ∷ (0 ∷ 0 ∷ 0 ∷ 0 ∷ 0 ∷ 0 ∷ 0 ∷ 0 ∷ 2 ∷ 6 ∷ 0 ∷ [])))
     -- of two neighbours the first
+    ∷ (receiveC 6 17 1 1 1 (0 ∷ 1 ∷ 0 ∷ []) (lent 11) ⇒ (1 ∷ (lent 11)))
+    ∷ (receiveC 2 17 8 1 1 (0 ∷ 1 ∷ 0 ∷ []) (lent 11) ⇒ (2 ∷ (lent 11)))
+    ∷ (receiveC 7 10 5 3 1 (0 ∷ 1 ∷ 0 ∷ []) (lent 11) ⇒ (3 ∷ (lent 11)))
     ∷ (receiveC 2 3 1 3 65 [] (lent 11) ⇒ (10 ∷ (lent 11)))
     ∷ (receiveC 2 3 1 1 65 [] (lent 11) ⇒ (13 ∷ (lent 11)))
     ∷ (receiveC 2 3 1 1 65 [] (lent 1) ⇒ (13 ∷ (lent 1)))
+    ∷ (receiveC 2 3 1 1 1 (2 ∷ []) (lent 11) ⇒ (4 ∷ (lent 11)))
     ∷ (receiveC 2 3 1 1 1 (0 ∷ 2 ∷ 0 ∷ []) (lent 1) ⇒ (4 ∷ (lent 1)))
     ∷ (receiveC 2 3 2 1 1 (0 ∷ 2 ∷ 0 ∷ []) (lent 11) ⇒ (6 ∷ (lent 11)))
     -- and where none applies: the index 928, least byte first, then the dimension and the vector
@@ -271,10 +287,14 @@ refusals =
     ∷ (pool leftPlane otherDimension (lent 9) (lent 9) ⇒ (16 ∷ 0 ∷ 0 ∷ image zeros ++ (lent 9 ++ lent 9)))
     ∷ (pool leftPlane rightPlane (lent 8) (lent 9) ⇒ (4 ∷ 0 ∷ 0 ∷ image zeros ++ (lent 8 ++ lent 9)))
     ∷ (pool leftPlane rightPlane (lent 9) (lent 10) ⇒ (4 ∷ 0 ∷ 0 ∷ image zeros ++ (lent 9 ++ lent 10)))
+    ∷ (pool leftPlane rightPlane (lent 10) (lent 8) ⇒ (4 ∷ 0 ∷ 0 ∷ image zeros ++ (lent 10 ++ lent 8)))
     -- of two neighbours the first is told
     ∷ (pool zeroRow otherField (lent 9) (lent 9) ⇒ (14 ∷ 0 ∷ 0 ∷ image zeros ++ (lent 9 ++ lent 9)))
     ∷ (pool otherField leftOver (lent 9) (lent 9) ⇒ (14 ∷ 0 ∷ 0 ∷ image zeros ++ (lent 9 ++ lent 9)))
     ∷ (pool leftPlane otherLength (lent 8) (lent 9) ⇒ (16 ∷ 0 ∷ 0 ∷ image zeros ++ (lent 8 ++ lent 9)))
+    ∷ (pool leftPlane otherField (lent 9) (lent 10) ⇒ (16 ∷ 0 ∷ 0 ∷ image zeros ++ (lent 9 ++ lent 10)))
+    ∷ (pool leftPlane leftOver (lent 9) (lent 8) ⇒ (14 ∷ 0 ∷ 0 ∷ image zeros ++ (lent 9 ++ lent 8)))
+    ∷ (pool zeroRow rightPlane (lent 8) (lent 9) ⇒ (14 ∷ 0 ∷ 0 ∷ image zeros ++ (lent 8 ++ lent 9)))
     -- and where none applies: two planes have the whole space and the line 010; 12 and 10 over three elements the plane and nothing; a
     -- receiver that holds nothing changes nothing
     ∷ (pool leftPlane rightPlane (lent 9) (lent 9)
@@ -298,6 +318,7 @@ refusals =
     ∷ (takeValue zeroRow (0 ∷ 1 ∷ 1 ∷ []) ⇒ (14 ∷ 0 ∷ 0 ∷ (image zeroRow)))
     ∷ (takeValue leftOver (0 ∷ 1 ∷ 1 ∷ []) ⇒ (14 ∷ 0 ∷ 0 ∷ (image leftOver)))
     ∷ (takeValue oneRow (0 ∷ 1 ∷ []) ⇒ (4 ∷ 0 ∷ 0 ∷ (image oneRow)))
+    ∷ (takeValue oneRow (0 ∷ 1 ∷ 1 ∷ 0 ∷ []) ⇒ (4 ∷ 0 ∷ 0 ∷ (image oneRow)))
     ∷ (takeValue oneRow (0 ∷ 2 ∷ 1 ∷ []) ⇒ (6 ∷ 0 ∷ 0 ∷ (image oneRow)))
     ∷ (takeValue zeros (2 ∷ []) ⇒ (14 ∷ 0 ∷ 0 ∷ (image zeros)))
     ∷ (takeValue oneRow (2 ∷ []) ⇒ (4 ∷ 0 ∷ 0 ∷ (image oneRow)))
@@ -317,6 +338,7 @@ refusals =
     ∷ (takeLent zeroRow (0 ∷ 1 ∷ 1 ∷ []) ⇒ (14 ∷ 0 ∷ 0 ∷ (image zeroRow)))
     ∷ (takeLent leftOver (0 ∷ 1 ∷ 1 ∷ []) ⇒ (14 ∷ 0 ∷ 0 ∷ (image leftOver)))
     ∷ (takeLent oneRow (0 ∷ 1 ∷ []) ⇒ (4 ∷ 0 ∷ 0 ∷ (image oneRow)))
+    ∷ (takeLent oneRow (0 ∷ 1 ∷ 1 ∷ 0 ∷ []) ⇒ (4 ∷ 0 ∷ 0 ∷ (image oneRow)))
     ∷ (takeLent oneRow (0 ∷ 2 ∷ 1 ∷ []) ⇒ (6 ∷ 0 ∷ 0 ∷ (image oneRow)))
     ∷ (takeLent zeros (2 ∷ []) ⇒ (14 ∷ 0 ∷ 0 ∷ (image zeros)))
     ∷ (takeLent oneRow (2 ∷ []) ⇒ (4 ∷ 0 ∷ 0 ∷ (image oneRow)))
@@ -345,7 +367,8 @@ refusals =
     ∷ (close twoRows 2 ⇒ (0 ∷ 3 ∷ 2 ∷ 6 ∷ []))
     ∷ (close middle 1 ⇒ (0 ∷ 2 ∷ 1 ∷ 2 ∷ []))
     ∷ (close middle 2 ⇒ (0 ∷ 4 ∷ 1 ∷ 2 ∷ []))
-    -- List: 11 for what is no settings line: nothing, no line feed, a fourth number, a leading zero, four digits, a blank, bytes after it
+    -- List: 11 for what is no settings line: nothing, no line feed, a fourth number, a leading zero, three of them, a blank, bytes after it,
+    -- two numbers, none before a comma, a letter, four digits
     ∷ (list [] ⇒ refused11)
     ∷ (list (50 ∷ 44 ∷ 51 ∷ 44 ∷ 49 ∷ []) ⇒ refused11)
     ∷ (list (50 ∷ 44 ∷ 51 ∷ 44 ∷ 49 ∷ 44 ∷ 48 ∷ 10 ∷ []) ⇒ refused11)
@@ -356,11 +379,16 @@ refusals =
     ∷ (list (50 ∷ 44 ∷ 51 ∷ 10 ∷ []) ⇒ refused11)
     ∷ (list (44 ∷ 51 ∷ 44 ∷ 49 ∷ 10 ∷ []) ⇒ refused11)
     ∷ (list (120 ∷ 44 ∷ 51 ∷ 44 ∷ 49 ∷ 10 ∷ []) ⇒ refused11)
+    ∷ (list (49 ∷ 48 ∷ 48 ∷ 48 ∷ 44 ∷ 51 ∷ 44 ∷ 49 ∷ 10 ∷ []) ⇒ refused11)
+    ∷ (list (50 ∷ 44 ∷ 49 ∷ 48 ∷ 48 ∷ 48 ∷ 44 ∷ 49 ∷ 10 ∷ []) ⇒ refused11)
+    ∷ (list (50 ∷ 44 ∷ 51 ∷ 44 ∷ 49 ∷ 48 ∷ 48 ∷ 48 ∷ 10 ∷ []) ⇒ refused11)
     -- 1, 2, 3, 12, and of two the first
     ∷ (list (54 ∷ 44 ∷ 51 ∷ 44 ∷ 49 ∷ 10 ∷ []) ⇒ refused1)
     ∷ (list (50 ∷ 44 ∷ 49 ∷ 55 ∷ 44 ∷ 49 ∷ 10 ∷ []) ⇒ refused2)
     ∷ (list (50 ∷ 44 ∷ 48 ∷ 44 ∷ 48 ∷ 10 ∷ []) ⇒ refused2)
     ∷ (list (50 ∷ 44 ∷ 51 ∷ 44 ∷ 52 ∷ 10 ∷ []) ⇒ refused2)
+    ∷ (list (50 ∷ 44 ∷ 49 ∷ 48 ∷ 48 ∷ 44 ∷ 49 ∷ 10 ∷ []) ⇒ refused2)
+    ∷ (list (50 ∷ 44 ∷ 51 ∷ 44 ∷ 49 ∷ 48 ∷ 48 ∷ 10 ∷ []) ⇒ refused2)
     ∷ (list (55 ∷ 44 ∷ 49 ∷ 48 ∷ 44 ∷ 53 ∷ 10 ∷ []) ⇒ refused3)
     ∷ (list (50 ∷ 44 ∷ 49 ∷ 48 ∷ 44 ∷ 51 ∷ 10 ∷ []) ⇒ refused12)
     ∷ (list (54 ∷ 44 ∷ 51 ∷ 44 ∷ 49 ∷ []) ⇒ refused11)
@@ -368,6 +396,11 @@ refusals =
     ∷ (list (50 ∷ 44 ∷ 49 ∷ 55 ∷ 44 ∷ 56 ∷ 10 ∷ []) ⇒ refused2)
     ∷ (list (48 ∷ 48 ∷ 48 ∷ 44 ∷ 51 ∷ 44 ∷ 49 ∷ 10 ∷ []) ⇒ refused11)
     ∷ (list (57 ∷ 57 ∷ 57 ∷ 44 ∷ 51 ∷ 44 ∷ 49 ∷ 10 ∷ []) ⇒ refused1)
+    -- 12 for a count above 65,536: of those beside it, 65,535 is listed and 87,381 is not
+    ∷ (listable 2 16 1 ⇒ (0 ∷ []))
+    ∷ (listable 2 16 15 ⇒ (0 ∷ []))
+    ∷ (listable 4 9 1 ⇒ (12 ∷ []))
+    ∷ (list (52 ∷ 44 ∷ 57 ∷ 44 ∷ 49 ∷ 10 ∷ []) ⇒ refused12)
     -- and where none applies the header and the lines: `/` stands between rows
     ∷ (list (50 ∷ 44 ∷ 50 ∷ 44 ∷ 50 ∷ 10 ∷ []) ⇒
     (101 ∷ 120 ∷ 116 ∷ 101 ∷ 110 ∷ 100 ∷ 101 ∷ 100 ∷ 44 ∷ 102 ∷ 101 ∷ 114 ∷ 114 ∷ 101 ∷ 114 ∷ 115 ∷ 44 ∷ 114 ∷ 111 ∷ 119 ∷ 115 ∷ 10
