@@ -2,4 +2,5 @@
 pub mod Pooling
 pub mod Spaces
 pub mod Theorem
+pub mod Flat
 pub mod laws
