@@ -1,7 +1,7 @@
 // A caller of each public call and of each function for C, that asks nothing of its own caller and repeats the whole contract of what it
 // calls: where a contract loses a clause, or asks something, its caller here is refused. No part of the product.
 ghost use mathlib.Core.Path.{_≡_};
-ghost use lib.ListN.{length};
+ghost use lib.ListN.{length, take};
 ghost use Rattle.refusal.specs.Refusal.{unlessRefused};
 ghost use Rattle.counts.specs.Gaussian.{gaussian, counts as countsTable};
 ghost use Rattle.settings.specs.Settings.{settingsRefusal, countOf, countNumber, countValue};
@@ -20,7 +20,8 @@ ghost use Rattle.receive.specs.Receive.{receiveRefusal, receiveOf};
 ghost use Rattle.receiver.specs.Receiver.{startOf, startNumber, used, heldRows, takeOf, TakeTells, closeRefusal, closeOf};
 ghost use Rattle.spaces.specs.Spaces.{jointDimension, commonDimension};
 ghost use Rattle.pool.specs.Pool.{poolRefusal, poolOf, jointBuffer, commonBuffer, poolNumber, poolJoint, poolCommon};
-ghost use Rattle.pandrwyg.specs.Exported.{exportedOf, exportedNumber, exportedBytes};
+ghost use Rattle.pandrwyg.specs.Exported.{answerBytes, exportedOf, exportedNumber, exportedBytes};
+ghost use Rattle.recovery.specs.Demand.{littleEndian};
 ghost use Rattle.settings_line.specs.SettingsLine.{parsed};
 ghost use Rattle.listing.specs.Steps.{begun, chunkOf, nextState};
 ghost use Rattle.listing.specs.Front.{written};
@@ -204,4 +205,26 @@ pub fn receive_for_c(
     ensures { λ r. ⌜ r ≡ exportedNumber q n k t «row_count» (now (rows .entry)) (length (now (answer .entry))) ⌝ }
 {
     pandrwyg::pandrwyg_receive_raw(q, n, k, t, row_count, rows, answer)
+}
+
+// A round trip in C's terms: the matrix with the index is drawn to `matrix`, and received from there.
+pub fn round_trip(
+    q: u64,
+    n: u64,
+    k: u64,
+    t: u64,
+    index: u64,
+    matrix: &mut [u8],
+    answer: &mut [u8],
+) -> u32
+    ensures { λ r. ⌜ (drawRefusal q n k t index (length (now (matrix .entry))) ≡ 0 → length (now (answer .entry)) ≡ 11
+        → (r ≡ 0)
+        × (now (answer .exit) ≡ answerBytes index k (identifying n k (now (matrix .exit))))
+        × (littleEndian (take 8 (now (answer .exit))) ≡ index)) ⌝ }
+{
+    let refusal = pandrwyg::pandrwyg_draw_raw(q, n, k, t, index, matrix);
+    if refusal != 0 {
+        return refusal;
+    }
+    pandrwyg::pandrwyg_receive_raw(q, n, k, t, k, matrix, answer)
 }
