@@ -18,6 +18,7 @@ ghost use Rattle.reduce.specs.Reduce.{reductionNumber, reductionDimension, redu
 ghost use Rattle.receive.specs.Answer.{Told, receivedNumber};
 ghost use Rattle.receive.specs.Receive.{receiveRefusal, receiveOf};
 ghost use Rattle.receiver.specs.Receiver.{startOf, startNumber, used, heldRows, takeOf, TakeTells, closeRefusal, closeOf};
+ghost use Rattle.receiver.specs.Receiver.{lentReceiver, lentAnswer, takenAs};
 ghost use Rattle.spaces.specs.Spaces.{jointDimension, commonDimension};
 ghost use Rattle.pool.specs.Pool.{poolRefusal, poolOf, jointBuffer, commonBuffer, poolNumber, poolJoint, poolCommon};
 ghost use Rattle.pandrwyg.specs.Exported.{answerBytes, exportedOf, exportedNumber, exportedBytes};
@@ -124,6 +125,16 @@ pub fn take(receiver: Receiver, row: &[u8]) -> Taken
     ensures { λ r. ⌜ (r ≡ takeOf receiver (now (row .entry))) × TakeTells receiver (now (row .entry)) r ⌝ }
 {
     receiver.take(row)
+}
+
+// Lends a local to Take, and hands back what is then in it.
+pub fn taken_lent(mut receiver: Receiver, row: &[u8]) -> Taken
+    ensures { λ r. ⌜ (r .answer ≡ lentAnswer receiver (now (row .entry)))
+        × TakeTells receiver (now (row .entry)) (takenAs (lentReceiver receiver (now (row .entry))) (r .answer))
+        × (r .receiver ≡ lentReceiver receiver (now (row .entry))) ⌝ }
+{
+    let answer = receiver::take_lent(&mut receiver, row);
+    Taken { receiver, answer }
 }
 
 pub fn close(receiver: Receiver, t: u64) -> Received

@@ -80,15 +80,9 @@ pub extern "C" fn harness_take(image: Image, row: &[u8]) -> Step {
     take_step(receiver_of(image).take(row))
 }
 
-// Lends a local to Take, and hands back what is then in it.
-fn taken_lent(mut receiver: Receiver, row: &[u8]) -> Taken {
-    let answer = receiver::take_lent(&mut receiver, row);
-    Taken { receiver, answer }
-}
-
 #[no_mangle]
 pub extern "C" fn harness_take_lent(image: Image, row: &[u8]) -> Step {
-    take_step(taken_lent(receiver_of(image), row))
+    take_step(clients::taken_lent(receiver_of(image), row))
 }
 
 // What Receive and Close answer; done, the index and the vector, and no dimension.
