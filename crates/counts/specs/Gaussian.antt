@@ -1,7 +1,7 @@
 -- The Gaussian coefficient, the number of spaces of dimension k in rows of length n over the field with q elements.
 --   gaussian q n k     == formula (4) of document 001, with 1 at k = 0 and 0 at k > n
 --   greatestCount      == 2^64 - 1
---   tableEntry q n k   == document 01's table: the count, "a count above 2^64 - 1 is entered as 0"
+--   tableEntry q n k, capped == document 01's table: the count, "a count above 2^64 - 1 is entered as 0"
 --   counts             == the table, whole: for the field sizes "all n and k from 0 to 16", by q, then n, then k; order 7: "The table of
 --                         counts grows to 1,734 numbers."
 -- Assumes nothing.

@@ -2,8 +2,9 @@
 -- whose pivot is to its left. The entries at the dots are the tableau; its size m is the number of dots."
 --   freeColumns n k m     == the columns from the right, 1 to n, that have no pivot, in that order
 --   dots n k m j          == the number of rows whose pivot is to the left of column j
---   diagram n k m         == F_1, F_2, .. ; size n k m == their sum
---   tableau n k m         == the entries at the dots, "column by column from the right, each column from top to bottom"
+--   diagram n k m         == F_1, F_2, .. ; size n k m == their sum; total F == the sum of a list
+--   tableau n k m         == the entries at the dots, "column by column from the right, each column from top to bottom";
+--                            tableauOf n k m js == those of the columns js
 --   tableauValue q n k m  == {x}, "the tableau read as a base-q number, first entry most significant"
 --   diagramPlace k η F m  == formula (12), the place of the diagram among those of its size
 --   ferrersIndex q n k m  == formula (14): "the sum of p(k, n-k, i) × q^i for i above m, plus q^m times the place of the diagram among

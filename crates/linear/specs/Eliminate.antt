@@ -8,6 +8,7 @@
 --   insertRow q n rs v  == the reduced rows rs with v taken in
 --   reducedRows q n rows, reducedOf q n rows == the rows of the reduced matrix, and its bytes
 --   dimension q n rows  == its number of rows
+--   join rows           == the bytes of the rows, one row after the other
 -- Assumes nothing.
 use mathlib.Core.List.{List, [], _∷_, _++_}
 use Prim.Native.Nat.{ℕ}

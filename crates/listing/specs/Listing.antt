@@ -7,7 +7,7 @@
 --   linesFrom q n k i m    == the lines of the m extended indexes from i on, rising
 --   columnNames, header     == "extended,ferrers,rows"; this and a line feed
 --   refusedWord, refusedLine r == "refused"; this, a comma, the number r and a line feed
---   listingOutput input    == all that the program writes for the bytes of its input
+--   listingOutput input    == all that the program writes for the bytes of its input; outputFor found == for what these are found to be
 -- Assumes nothing.
 use mathlib.Core.Bool.{true, false}
 use mathlib.Core.List.{List, [], _∷_, _++_}

@@ -2,12 +2,14 @@
 -- each step, so that a state which no step made does no harm: of settings that are refused no line is left.
 --   chunkLines, chunkSize == a chunk has at most 64 lines, and room for them: 320 bytes for each
 --   mostSteps       == 1,026: the header, 1,024 chunks of lines, and the empty chunk that ends the listing
+--   started x, progressTo p i == a listing of the settings x at its first line; p at the line of the index i
 --   live p          == the settings of p are not refused, and its index is below their count
 --   linesEnd N i    == the index up to which the next chunk lists: 64 lines further than i, or all
 --   remaining s     == all that is still to be written in the state s; remainingLines p, among the lines
 --   begunFor, begun == the state in which the program begins
---   chunkOf s       == what a step writes in the state s: the line of a refusal, the header, up to 64 lines, or nothing at the end
---   nextState s     == the state after it; linesChunk p and linesNext p, the same among the lines
+--   chunkOf s, linesChunk p == what a step writes in the state s: the line of a refusal, the header, up to 64 lines, or nothing at the end;
+--                      among the lines
+--   nextState s, linesNext p == the state after it; among the lines
 --   stateAfter m s, chunks m s == the state after m steps, and what they write
 -- Theorems has `chunk-remaining`, `chunk-empty`, `finished` and `chunks-are-the-output`.
 -- Assumes nothing.

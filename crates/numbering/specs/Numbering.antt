@@ -1,6 +1,8 @@
 -- The two numberings side by side. Document 01: "Numbering 1 is extended, numbering 2 is Ferrers."
+--   extended, ferrers   == 1 and 2
 --   isNumbering t       == the test that t is one of them
 --   Numbering           == what a numbering is: the index of a reduced matrix, the matrix of an index, and the order
+--   extendedNumbering, ferrersNumbering == the two of them
 --   numberingOf t       == the numbering that t stands for
 --   indexOf q n k t m   == the index of the reduced matrix m in the numbering t
 --   drawn q n k t i     == the bytes of the reduced matrix with the index i in the numbering t

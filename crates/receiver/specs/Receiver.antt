@@ -14,7 +14,8 @@
 --                       for another, "raised" if the dimension grew, "held" if not; "A refused row gives only the number, and the receiver
 --                       is handed back unchanged."
 --   lentReceiver, lentAnswer == the same for Take on a lent receiver: what it leaves, and what it answers
---   closeOf r t      == "Close a receiver: 14, 10, 8, 9, the last two with the dimension"; order 2: and with the identifying vector
+--   closeOf r t      == "Close a receiver: 14, 10, 8, 9, the last two with the dimension"; order 2: and with the identifying vector;
+--                       closeRefusal r t == 14 and 10 alone
 --   takeNumber, takeRaised, takeIdle == document 01's refusal number of each case of Take's answer, and the tests that the case is
 --                       "raised", and that it is "idle"
 --   TakeTells r row t == what t, handed back by Take, tells: by its answer the refusal, whether the dimension grew, and whether an

@@ -37,6 +37,7 @@ tellsSpace a dimension vector = (receivedDimension a ≡ dimension) × (received
 abbrev pub reads : ℕ → List ℕ → ℕ → ℕ → Type 0
 reads returned bytes number index = (returned ≡ number) × (littleEndian (take 8 bytes) ≡ index)
 
+-- and the same of the bytes after the index
 abbrev pub readsSpace : List ℕ → ℕ → ℕ → Type 0
 readsSpace bytes dimension vector = (getD bytes 8 0 ≡ dimension) × (littleEndian (drop 9 bytes) ≡ vector)
 

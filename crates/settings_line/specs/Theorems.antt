@@ -1,6 +1,7 @@
 -- What is found to be a settings line is exactly one.
---   parsed-exactly      == a text is found to be the settings x exactly when it is the line of x, three numbers below 1000, and Malformed
---                          exactly when it is no such line
+--   ParsedExactly s     == the text s is found to be the settings x exactly when it is the line of x, three numbers below 1000, and
+--                          Malformed exactly when it is no such line
+--   parsed-exactly      == it holds of every text
 --   settings-line-short == a settings line has at most 12 bytes
 --   parsed-bounded      == the first 13 bytes of a text decide what it is
 -- Assumes nothing.
