@@ -1,16 +1,22 @@
 -- What Start, Take and Close answer for every input, and the receiver that each hands back or leaves. Document 01:
---   empty q n k      == a receiver with the settings, 256 entries all zero, and dimension 0
---   startOf q n k    == "Start a receiver: 1, 2, 3; a refused start gives a receiver of all zeros."
+--   Setup            == what a receiver is started with: the settings; setup q n k == those that Start gets
+--   Offer            == what is offered to Take: a row; offer row == the one that Take gets
+--   setupOf r        == what the receiver r was started with, by its fields
+--   setupRefusal s   == the refusal of the settings in s: 1, 2 or 3, or 0
+--   noSetup          == all zeros: what the receiver of a refused start has
+--   made s d entries == the receiver of this setup, dimension and entries
+--   empty s          == a receiver with the setup, 256 entries all zero, and dimension 0
+--   startOf s        == "Start a receiver: 1, 2, 3; a refused start gives a receiver of all zeros."
 --   startNumber      == document 01's refusal number of what Start hands back
 --   wellFormed r     == the test that Take and Close make before anything else: the settings are accepted, the dimension is at most n, the
 --                       first dimension×n entries are a reduced matrix, and all other entries are 0 (below 1). The theorem
 --                       `reachable-exactly-well-formed` shows that it holds exactly for those that an accepted Start and Takes leave
 --   heldRows r       == the rows that the receiver holds
---   holding q n k rows == the receiver that holds the reduced rows of `rows`
+--   holding s rows   == the receiver with the setup that holds the reduced rows of `rows`
 --   takeRefusal      == "Take one row into a receiver: 14 if the receiver is none that Start and Take can leave after an accepted Start;
 --                       4 if the row isn't n bytes; 6."
 --   isZero row       == the test that the row is zero: that every entry of it is 0 (below 1)
---   takeOf r row     == what Take hands back: the receiver with the row taken in, and, by order 5, ""idle" for an accepted row of zeros";
+--   takeOf r o       == what Take hands back: the receiver with the row taken in, and, by order 5, ""idle" for an accepted row of zeros";
 --                       for another, "raised" if the dimension grew, "held" if not; "A refused row gives only the number, and the receiver
 --                       is handed back unchanged."
 --   lentReceiver, lentAnswer == the same for Take on a lent receiver: what it leaves, and what it answers
@@ -18,7 +24,7 @@
 --                       closeRefusal r t == 14 and 10 alone
 --   takeNumber, takeRaised, takeIdle == document 01's refusal number of each case of Take's answer, and the tests that the case is
 --                       "raised", and that it is "idle"
---   TakeTells r row t == what t, handed back by Take, tells: by its answer the refusal, whether the dimension grew, and whether an
+--   TakeTells r o t  == what t, handed back by Take, tells: by its answer the refusal, whether the dimension grew, and whether an
 --                       accepted row is zero; and, order 5: "The receiver's content is untouched" wherever the answer isn't "raised": whole
 --                       receivers are equal
 -- Assumes nothing.
@@ -46,12 +52,37 @@ use Rattle.receiver.specs.declared.Taken.{Taken}
 use Rattle.receiver.specs.declared.TakeAnswer.{TakeAnswer}
 use Rattle.receiver.specs.declared.TakeAnswer.the-variants.{Raised, Held, Idle, Refused}
 
-abbrev pub empty : ℕ → ℕ → ℕ → Receiver
-empty q n k = record { entries = replicate 256 0; q = q; n = n; k = k; dimension = 0 }
+pub record Setup : Type 0 where
+  pub q : ℕ
+  pub n : ℕ
+  pub k : ℕ
 
-unfoldable pub startOf : ℕ → ℕ → ℕ → Started
-startOf q n k =
-    record { receiver = unlessRefused (settingsRefusal q n k) (empty q n k) (empty 0 0 0); refusal = settingsRefusal q n k }
+pub record Offer : Type 0 where
+  pub row : List ℕ
+
+abbrev pub setup : ℕ → ℕ → ℕ → Setup
+setup q n k = record { q = q; n = n; k = k }
+
+abbrev pub offer : List ℕ → Offer
+offer row = record { row = row }
+
+abbrev pub setupOf : Receiver → Setup
+setupOf r = record { q = r .q; n = r .n; k = r .k }
+
+abbrev pub setupRefusal : Setup → ℕ
+setupRefusal s = settingsRefusal (s .q) (s .n) (s .k)
+
+abbrev pub noSetup : Setup
+noSetup = record { q = 0; n = 0; k = 0 }
+
+abbrev pub made : Setup → ℕ → List ℕ → Receiver
+made s d entries = record { entries = entries; q = s .q; n = s .n; k = s .k; dimension = d }
+
+abbrev pub empty : Setup → Receiver
+empty s = made s 0 (replicate 256 0)
+
+unfoldable pub startOf : Setup → Started
+startOf s = record { receiver = unlessRefused (setupRefusal s) (empty s) (empty noSetup); refusal = setupRefusal s }
 
 abbrev pub startNumber : Started → ℕ
 startNumber s = s .refusal
@@ -66,7 +97,7 @@ unused r = drop (r .dimension * r .n) (r .entries)
 
 unfoldable pub wellFormed : Receiver → Bool
 wellFormed r =
-    eqb (settingsRefusal (r .q) (r .n) (r .k)) 0
+    eqb (setupRefusal (setupOf r)) 0
     && (leb (r .dimension) (r .n)
     && (entriesBelow (r .q) (used r)
     && (entriesBelow 1 (unused r)
@@ -75,41 +106,42 @@ wellFormed r =
 unfoldable pub heldRows : Receiver → List (List ℕ)
 heldRows r = rowsOf (r .n) (r .dimension) (r .entries)
 
-unfoldable pub holding : ℕ → ℕ → ℕ → List (List ℕ) → Receiver
-holding q n k rows =
-    record { entries = padded 256 (reducedOf q n rows); q = q; n = n; k = k; dimension = dimension q n rows }
+unfoldable pub holding : Setup → List (List ℕ) → Receiver
+holding s rows = made s (dimension (s .q) (s .n) rows) (padded 256 (reducedOf (s .q) (s .n) rows))
 
-unfoldable pub takeRefusal : Receiver → List ℕ → ℕ
-takeRefusal r row =
+unfoldable pub takeRefusal : Receiver → Offer → ℕ
+takeRefusal r o =
     first
     (refuseUnless (wellFormed r) receiverRefusal
-    ∷ refuseUnless (eqb (length row) (r .n)) lengthRefusal
-    ∷ refuseUnless (entriesBelow (r .q) row) entryRefusal
+    ∷ refuseUnless (eqb (length (o .row)) (r .n)) lengthRefusal
+    ∷ refuseUnless (entriesBelow (r .q) (o .row)) entryRefusal
     ∷ [])
 
 abbrev pub isZero : List ℕ → Bool
 isZero row = entriesBelow 1 row
 
 -- the row taken in
-unfoldable pub takenIn : Receiver → List ℕ → Taken
-takenIn r row =
+unfoldable pub takenIn : Receiver → Offer → Taken
+takenIn r o =
     record {
-      receiver = holding (r .q) (r .n) (r .k) (heldRows r ++ (row ∷ []));
-      answer = pick (isZero row) Idle (pick (ltb (r .dimension) (dimension (r .q) (r .n) (heldRows r ++ (row ∷ [])))) Raised Held);
+      receiver = holding (setupOf r) (heldRows r ++ (o .row ∷ []));
+      answer =
+          pick (isZero (o .row)) Idle
+          (pick (ltb (r .dimension) (dimension (r .q) (r .n) (heldRows r ++ (o .row ∷ [])))) Raised Held);
     }
 
-unfoldable pub takeOf : Receiver → List ℕ → Taken
-takeOf r row = unlessRefused (takeRefusal r row) (takenIn r row) (record { receiver = r; answer = Refused (takeRefusal r row) })
+unfoldable pub takeOf : Receiver → Offer → Taken
+takeOf r o = unlessRefused (takeRefusal r o) (takenIn r o) (record { receiver = r; answer = Refused (takeRefusal r o) })
 
 -- a receiver and an answer
 abbrev pub takenAs : Receiver → TakeAnswer → Taken
 takenAs r answer = record { receiver = r; answer = answer }
 
-abbrev pub lentReceiver : Receiver → List ℕ → Receiver
-lentReceiver r row = (takeOf r row) .receiver
+abbrev pub lentReceiver : Receiver → Offer → Receiver
+lentReceiver r o = (takeOf r o) .receiver
 
-abbrev pub lentAnswer : Receiver → List ℕ → TakeAnswer
-lentAnswer r row = (takeOf r row) .answer
+abbrev pub lentAnswer : Receiver → Offer → TakeAnswer
+lentAnswer r o = (takeOf r o) .answer
 
 unfoldable pub closeRefusal : Receiver → ℕ → ℕ
 closeRefusal r t = first (refuseUnless (wellFormed r) receiverRefusal ∷ refuseUnless (isNumbering t) numberingRefusal ∷ [])
@@ -136,8 +168,8 @@ takeIdle Held = false
 takeIdle Idle = true
 takeIdle (Refused r) = false
 
-pub record TakeTells (r : Receiver) (row : List ℕ) (t : Taken) : Type 0 where
-  pub number : takeNumber (t .answer) ≡ takeRefusal r row
+pub record TakeTells (r : Receiver) (o : Offer) (t : Taken) : Type 0 where
+  pub number : takeNumber (t .answer) ≡ takeRefusal r o
   pub raised : takeRaised (t .answer) ≡ ltb (r .dimension) ((t .receiver) .dimension)
-  pub idle : takeIdle (t .answer) ≡ eqb (takeRefusal r row) 0 && isZero row
+  pub idle : takeIdle (t .answer) ≡ eqb (takeRefusal r o) 0 && isZero (o .row)
   pub untouched : takeRaised (t .answer) ≡ false → t .receiver ≡ r

@@ -3,12 +3,11 @@ ghost use mathlib.Core.Path.{_≡_};
 ghost use mathlib.Core.Bool.{false};
 ghost use lib.ListN.{length};
 ghost use Rattle.basics.specs.Choice.{pick};
-ghost use Rattle.settings.specs.Settings.{settingsRefusal};
 ghost use Rattle.matrix.specs.Matrix.{identifying};
 ghost use Rattle.receive.specs.Answer.{Told};
-ghost use Rattle.receiver.specs.Receiver.{startOf, startNumber, used, wellFormed, isZero, takeRefusal, takenIn, takeOf, TakeTells};
+ghost use Rattle.receiver.specs.Receiver.{setup, setupRefusal, offer, made, empty, startOf, startNumber, used, wellFormed, isZero};
+ghost use Rattle.receiver.specs.Receiver.{takeRefusal, takenIn, takeOf, TakeTells};
 ghost use Rattle.receiver.specs.Receiver.{lentReceiver, lentAnswer, takenAs, closeRefusal, closeOf};
-ghost use Rattle.receiver.specs.laws.WellFormed.{made};
 ghost use Rattle.receiver.specs.laws.TakeAccepted.{TakeAccepted};
 use receive::Received;
 use reduce::Space;
@@ -42,32 +41,33 @@ pub struct Taken {
     pub answer: TakeAnswer,
 }
 
+// A receiver with this setup that holds no rows.
+pub fn empty_receiver(q: u64, n: u64, k: u64) -> Receiver
+    ensures { λ r. ⌜ r ≡ empty (setup q n k) ⌝ }
+{
+    Receiver {
+        entries: [0u8; 256],
+        q,
+        n,
+        k,
+        dimension: 0,
+    }
+}
+
 // Start: a receiver that holds no rows. Refuses 1, 2, 3, with a receiver of all zeros.
 pub fn start(q: u64, n: u64, k: u64) -> Started
-    ensures { λ r. ⌜ r ≡ startOf q n k ⌝ }
-    ensures { λ r. ⌜ startNumber r ≡ settingsRefusal q n k ⌝ }
+    ensures { λ r. ⌜ r ≡ startOf (setup q n k) ⌝ }
+    ensures { λ r. ⌜ startNumber r ≡ setupRefusal (setup q n k) ⌝ }
 {
     let refusal = settings::settings_refusal(q, n, k);
     if refusal != 0 {
         return Started {
-            receiver: Receiver {
-                entries: [0u8; 256],
-                q: 0,
-                n: 0,
-                k: 0,
-                dimension: 0,
-            },
+            receiver: empty_receiver(0, 0, 0),
             refusal,
         };
     }
     Started {
-        receiver: Receiver {
-            entries: [0u8; 256],
-            q,
-            n,
-            k,
-            dimension: 0,
-        },
+        receiver: empty_receiver(q, n, k),
         refusal: 0,
     }
 }
@@ -95,9 +95,9 @@ struct TakeTested {
 // dimension is known to be at most n, and n at most 16, before the two are multiplied.
 fn well_formed(q: u64, n: u64, k: u64, dimension: u64, entries: &[u8]) -> Formed
     requires { ⌜ length (now entries) ≡ 256 ⌝ }
-    ensures { λ r. ⌜ (r .formed ≡ wellFormed (made q n k dimension (now (entries .entry))))
-        × (r .vector ≡ pick (wellFormed (made q n k dimension (now (entries .entry))))
-        (identifying n dimension (used (made q n k dimension (now (entries .entry))))) 0) ⌝ }
+    ensures { λ r. ⌜ (r .formed ≡ wellFormed (made (setup q n k) dimension (now (entries .entry))))
+        × (r .vector ≡ pick (wellFormed (made (setup q n k) dimension (now (entries .entry))))
+        (identifying n dimension (used (made (setup q n k) dimension (now (entries .entry))))) 0) ⌝ }
 {
     if n < dimension {
         return Formed {
@@ -143,7 +143,7 @@ impl Receiver {
 
     // The first refusal of Take that applies; 0 where none does. The row's entries are looked at once.
     fn take_refusal(self, row: &[u8]) -> TakeTested
-        ensures { λ r. ⌜ (r .refusal ≡ takeRefusal self (now (row .entry)))
+        ensures { λ r. ⌜ (r .refusal ≡ takeRefusal self (offer (now (row .entry))))
             × (r .vector ≡ pick (wellFormed self) (identifying (self .n) (self .dimension) (used self)) 0)
             × (r .refusal ≡ 0 → r .zero ≡ isZero (now (row .entry))) ⌝ }
     {
@@ -204,10 +204,10 @@ impl Receiver {
 
     // The row taken in; every test has been made, found the receiver's identifying vector, and the row not zero.
     fn taken_in(self, row: &[u8], vector: u16) -> Taken
-        requires { ⌜ TakeAccepted self (now row)
+        requires { ⌜ TakeAccepted self (offer (now row))
             × (isZero (now row) ≡ false)
             × (vector ≡ identifying (self .n) (self .dimension) (used self)) ⌝ }
-        ensures { λ r. ⌜ r ≡ takenIn self (now (row .entry)) ⌝ }
+        ensures { λ r. ⌜ r ≡ takenIn self (offer (now (row .entry))) ⌝ }
     {
         let width = self.n as usize;
         let size = width * width;
@@ -223,13 +223,9 @@ impl Receiver {
             &mut entries[..size],
             &mut pivots,
         );
-        let receiver = Receiver {
-            entries,
-            q: self.q,
-            n: self.n,
-            k: self.k,
-            dimension: dimension as u64,
-        };
+        let mut receiver = self;
+        receiver.entries = entries;
+        receiver.dimension = dimension as u64;
         if before < dimension {
             return Taken {
                 receiver,
@@ -245,7 +241,7 @@ impl Receiver {
     // Take: the receiver with the row taken in, and whether the dimension grew, the row was held already, or the row is zero and so idle.
     // Refuses 14, 4 (the row is not n bytes), 6. Unless the dimension grew, the receiver is handed back unchanged.
     pub fn take(self, row: &[u8]) -> Taken
-        ensures { λ r. ⌜ (r ≡ takeOf self (now (row .entry))) × TakeTells self (now (row .entry)) r ⌝ }
+        ensures { λ r. ⌜ (r ≡ takeOf self (offer (now (row .entry)))) × TakeTells self (offer (now (row .entry))) r ⌝ }
     {
         let tested = self.take_refusal(row);
         if tested.refusal != 0 {
@@ -285,10 +281,10 @@ impl Receiver {
 
 // Take on a lent receiver: copies it out, takes the row into the copy, and stores that back.
 pub fn take_lent(r: &mut Receiver, row: &[u8]) -> TakeAnswer
-    ensures { λ answer. ⌜ (answer ≡ lentAnswer (now (r .entry)) (now (row .entry)))
-        × TakeTells (now (r .entry)) (now (row .entry))
-        (takenAs (lentReceiver (now (r .entry)) (now (row .entry))) answer) ⌝ }
-    ensures { λ _. ⌜ now (r .exit) ≡ lentReceiver (now (r .entry)) (now (row .entry)) ⌝ }
+    ensures { λ answer. ⌜ (answer ≡ lentAnswer (now (r .entry)) (offer (now (row .entry))))
+        × TakeTells (now (r .entry)) (offer (now (row .entry)))
+        (takenAs (lentReceiver (now (r .entry)) (offer (now (row .entry)))) answer) ⌝ }
+    ensures { λ _. ⌜ now (r .exit) ≡ lentReceiver (now (r .entry)) (offer (now (row .entry))) ⌝ }
 {
     let t = (*r).take(row);
     *r = t.receiver;

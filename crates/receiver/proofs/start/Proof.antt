@@ -1,7 +1,7 @@
 -- `receiver::start` meets its contract: the settings are refused, or the receiver is empty.
-use mathlib.Core.Path.{_∙_, ap, ap₂, sym}
+use mathlib.Core.Path.{_∙_, ap₂, sym}
 use Rattle.refusal.specs.laws.First.{kept, done}
-use Rattle.receiver.specs.Receiver.{empty, startOf}
+use Rattle.receiver.specs.Receiver.{startOf}
 use Rattle.receiver.specs.declared.Receiver.{Receiver}
 use Rattle.receiver.specs.declared.Started.{Started}
 use borrow.Author.Needs.{needs}
@@ -16,17 +16,23 @@ started r x = record { receiver = r; refusal = x }
 settings-refusal-requires : tie.Need-settings-refusal-requires
 settings-refusal-requires c κs = search needs
 
+empty-receiver-requires : tie.Need-empty-receiver-requires
+empty-receiver-requires c κs = search needs
+
 returns : tie.Need-returns
 unfolding startOf started
 returns c =
-    let told = c .before .settings-refusal .ensures in
-    (ap₂ started (kept _ _ _ (λ z. c .if1 .taken (told ∙ z))) told, told)
+    let told = c .before .before .settings-refusal .ensures in
+    (ap₂ started (c .empty-receiver .ensures ∙ kept _ _ _ (λ z. c .before .if1 .taken (told ∙ z))) told, told)
+
+empty-receiver-requires-2 : tie.Need-empty-receiver-requires-2
+empty-receiver-requires-2 c κs = search needs
 
 returns-2 : tie.Need-returns-2
 unfolding startOf started
 returns-2 c =
-    let z = sym (c .before .settings-refusal .ensures) ∙ c .if1 .left in
-    (ap₂ started (done _ _ _ z) (sym z), sym z)
+    let z = sym (c .before .before .settings-refusal .ensures) ∙ c .before .if1 .left in
+    (ap₂ started (c .empty-receiver2 .ensures ∙ done _ _ _ z) (sym z), sym z)
 
 pub start-spec : {M : Type 1} → statement M
-start-spec = tie.close (tie.spec settings-refusal-requires returns returns-2)
+start-spec = tie.close (tie.spec settings-refusal-requires empty-receiver-requires returns empty-receiver-requires-2 returns-2)

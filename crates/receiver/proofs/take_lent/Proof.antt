@@ -44,7 +44,7 @@ use denote.Triple.Table.{entered, cited}
 use denote.Triple.Walked.{says, Stays, stay-ref, stay-none-slice, walkOf, AllGo, goes-ref, goes-none-slice, Walks, ends-at, walked}
 use denote.Triple.Walked.{walk-meets}
 use denote.Exit.{yes}
-use Rattle.receiver.specs.Receiver.{takeOf, lentReceiver, lentAnswer, takenAs, TakeTells}
+use Rattle.receiver.specs.Receiver.{offer, takeOf, lentReceiver, lentAnswer, takenAs, TakeTells}
 use Rattle.receiver.specs.declared.Receiver.{Receiver}
 use Rattle.receiver.specs.declared.Taken.{Taken}
 use Rattle.receiver.proofs.Receiver as T
@@ -122,17 +122,18 @@ module _ {M : Type 1} (𝓤 : URA M) (H : Heap 𝓤) (A : Atoms 𝓤) (W : Given
 
   -- what Take says of what it hands back
   abbrev Said : Taken → Type 0
-  Said t = (t ≡ takeOf h (s .now)) × TakeTells h (s .now) t
+  Said t = (t ≡ takeOf h (offer (s .now))) × TakeTells h (offer (s .now)) t
 
   take-said : (t : Taken) → ent 𝓤 (ensured 𝓤 H A take.ended (take.clauses 𝓤 H A at-mem run) (κ′, tt) (h, (s, tt)) tt t) (fact 𝓤 (Said t))
   take-said t = exE 𝓤 _ (λ ws. snd∗ 𝓤 (sem 𝓤 H A (lasts take.ended (κ′, tt) (h, (s, tt)) ws)) (fact 𝓤 (Said t)))
 
   -- what is then to be said of the answer
   answered : (t : Taken) → Said t
-      → (t .answer ≡ lentAnswer h (s .now)) × TakeTells h (s .now) (takenAs (lentReceiver h (s .now)) (t .answer))
+      → (t .answer ≡ lentAnswer h (offer (s .now)))
+      × TakeTells h (offer (s .now)) (takenAs (lentReceiver h (offer (s .now))) (t .answer))
   answered t e = (
     ap (λ y. y .answer) (e .0),
-    subst (λ y. TakeTells h (s .now) (takenAs (y .receiver) (t .answer))) (e .0) (e .1),
+    subst (λ y. TakeTells h (offer (s .now)) (takenAs (y .receiver) (t .answer))) (e .0) (e .1),
   )
 
   exits : (t : Taken) (vs : List Val) → Is U.the-row t vs → Said t

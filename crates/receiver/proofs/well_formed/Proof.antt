@@ -8,13 +8,12 @@ use lib.ListN.{length, length-drop}
 use lib.Seq.{length-take-le, take-all}
 use borrow.Author.Tests.{not-true, not-false}
 use Rattle.basics.specs.Choice.{pick}
-use Rattle.settings.specs.Settings.{settingsRefusal}
 use Rattle.settings.specs.laws.Accepted.{accepted}
 use Rattle.matrix.specs.Matrix.{entriesBelow, identifying}
 use Rattle.walk.specs.Walk.{oversized}
 use Rattle.walk.specs.laws.Whole.{whole-entries, whole-rows, whole-vector}
-use Rattle.receiver.specs.Receiver.{used, unused, wellFormed}
-use Rattle.receiver.specs.laws.WellFormed.{made, formed-settings, formed-dimension, formed-entries, formed-rest, formed-reduced}
+use Rattle.receiver.specs.Receiver.{setup, setupOf, setupRefusal, made, used, unused, wellFormed}
+use Rattle.receiver.specs.laws.WellFormed.{formed-settings, formed-dimension, formed-entries, formed-rest, formed-reduced}
 use Rattle.receiver.specs.laws.Sound.{used-fit}
 use Rattle.receiver.specs.declared.Receiver.{Receiver}
 use borrow.Author.Needs.{needs}
@@ -28,9 +27,9 @@ tells r b e = ap (λ x. pick x (identifying (r .n) (r .dimension) (used r)) 0) e
 
 -- the receiver that is tested
 abbrev tested : tie.Start → Receiver
-tested s = let a = s .args in made (a .q) (a .n) (a .k) (a .dimension) (a .entries .now)
+tested s = let a = s .args in made (setup (a .q) (a .n) (a .k)) (a .dimension) (a .entries .now)
 
-settled : (c : tie.Else2) → let r = tested (c .before .before .before .before) in settingsRefusal (r .q) (r .n) (r .k) ≡ 0
+settled : (c : tie.Else2) → let r = tested (c .before .before .before .before) in setupRefusal (setupOf r) ≡ 0
 settled c = sym (c .before .settings-refusal .ensures) ∙ c .if2 .left
 
 low : (c : tie.Else2) → let r = tested (c .before .before .before .before) in r .dimension ≤ r .n

@@ -26,7 +26,7 @@ use Rattle.linear.specs.laws.ReducedOf.{reducedRows-kept, reducedOf-reduced, di
 use Rattle.linear.specs.laws.ReducedRows.{reduced-rows, rows-sized}
 use Rattle.linear.specs.laws.SameMatrix.{reducedRows-again}
 use Rattle.reduction.specs.Padded.{padded}
-use Rattle.receiver.specs.Receiver.{empty, used, heldRows, holding}
+use Rattle.receiver.specs.Receiver.{Setup, setupOf, setupRefusal, made, empty, used, heldRows, holding}
 use Rattle.receiver.specs.laws.Sound.{Sound, used-fit}
 use Rattle.receiver.specs.declared.Receiver.{Receiver}
 
@@ -69,11 +69,10 @@ module _ (r : Receiver) (size : length (r .entries) ≡ 256) (s : Sound r) where
       zeros (drop i (r .entries)) (256 - i) (length-drop i (r .entries) ∙ omega arith)
       (λ j g. getD-drop i (r .entries) j 0 ∙ s .rest (i + j) (omega arith) (omega arith))
 
-  pub held-again : r ≡ holding (r .q) (r .n) (r .k) (heldRows r)
+  pub held-again : r ≡ holding (setupOf r) (heldRows r)
   unfolding holding dimension reducedOf padded
   held-again =
-      ap₂ (λ (e : List ℕ) (d : ℕ). record { entries = e; q = r .q; n = r .n; k = r .k; dimension = d }) entries
-      (sym (ap length again ∙ held-length))
+      ap₂ (λ (e : List ℕ) (d : ℕ). made (setupOf r) d e) entries (sym (ap length again ∙ held-length))
     where
       again : reducedRows (r .q) (r .n) (heldRows r) ≡ heldRows r
       again =
@@ -87,31 +86,37 @@ module _ (r : Receiver) (size : length (r .entries) ≡ 256) (s : Sound r) where
           ∙ ap (λ x. used r ++ replicate (256 - x) 0) (sym (s .reduced .size))
           ∙ ap (padded 256) (sym (ap join again ∙ held-join))
 
-module _ (q n k : ℕ) (settings : settingsRefusal q n k ≡ 0) (rows : List (List ℕ)) (h : All (Row q n) rows) where
+module _ (s : Setup) (settings : setupRefusal s ≡ 0) (rows : List (List ℕ)) (h : All (Row (s .q) (s .n)) rows) where
+  abbrev q : ℕ
+  q = s .q
+
+  abbrev n : ℕ
+  n = s .n
+
   law : Laws q
-  law = settings-laws q n k settings
+  law = settings-laws q n (s .k) settings
 
   fit : dimension q n rows * n ≤ 256
-  fit = used-fit q n k (dimension q n rows) settings (dimension-le q law n rows h)
+  fit = used-fit q n (s .k) (dimension q n rows) settings (dimension-le q law n rows h)
 
   sized : length (reducedOf q n rows) ≡ dimension q n rows * n
   sized = reducedOf-reduced q law n rows h .size
 
-  pub holding-size : length ((holding q n k rows) .entries) ≡ 256
+  pub holding-size : length ((holding s rows) .entries) ≡ 256
   unfolding holding padded
   holding-size =
       length-append (reducedOf q n rows) (replicate (256 - length (reducedOf q n rows)) 0)
       ∙ omega (arith, length-replicate {A = ℕ} (256 - length (reducedOf q n rows)) 0, sized, fit)
 
-  pub holding-used : used (holding q n k rows) ≡ reducedOf q n rows
+  pub holding-used : used (holding s rows) ≡ reducedOf q n rows
   unfolding holding padded
   holding-used = take-at (reducedOf q n rows) (replicate (256 - length (reducedOf q n rows)) 0) (dimension q n rows * n) sized
 
-  pub holding-rows : heldRows (holding q n k rows) ≡ reducedRows q n rows
+  pub holding-rows : heldRows (holding s rows) ≡ reducedRows q n rows
   unfolding holding padded heldRows dimension reducedOf
   holding-rows = rows-joined n (replicate (256 - length (reducedOf q n rows)) 0) (rows-sized q n (reducedRows-kept q law n rows h .rows))
 
-  pub holding-sound : Sound (holding q n k rows)
+  pub holding-sound : Sound (holding s rows)
   unfolding holding padded
   holding-sound =
       record {
@@ -128,12 +133,10 @@ module _ (q n k : ℕ) (settings : settingsRefusal q n k ≡ 0) (rows : List (Li
           ∙ getD-append-add (reducedOf q n rows) (replicate (256 - length (reducedOf q n rows)) 0) (i - length (reducedOf q n rows)) 0
           ∙ getD-replicate (256 - length (reducedOf q n rows)) (i - length (reducedOf q n rows)) 0 0 (omega (arith, sized))
 
-  pub holding-held : (v : List ℕ) → InSpan q n rows v → holding q n k (rows ++ (v ∷ [])) ≡ holding q n k rows
+  pub holding-held : (v : List ℕ) → InSpan q n rows v → holding s (rows ++ (v ∷ [])) ≡ holding s rows
   unfolding holding dimension reducedOf
-  holding-held v s =
-      ap (λ (x : List (List ℕ)). record { entries = padded 256 (join x); q = q; n = n; k = k; dimension = length x })
-      (reducedRows-held q law n rows h v s)
+  holding-held v i = ap (λ (x : List (List ℕ)). made s (length x) (padded 256 (join x))) (reducedRows-held q law n rows h v i)
 
-pub holding-none : (q n k : ℕ) → empty q n k ≡ holding q n k []
+pub holding-none : (s : Setup) → empty s ≡ holding s []
 unfolding holding padded reducedOf dimension reducedRows insertRows join
-holding-none q n k = refl
+holding-none s = refl

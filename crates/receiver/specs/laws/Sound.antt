@@ -19,11 +19,11 @@ use Rattle.settings.specs.Settings.{settingsRefusal}
 use Rattle.settings.specs.laws.Accepted.{accepted}
 use Rattle.matrix.specs.Matrix.{entriesBelow, isReduced, Reduced}
 use Rattle.matrix.specs.laws.Tests.{entries-below, entries-below-true, reduced-exactly}
-use Rattle.receiver.specs.Receiver.{used, unused, wellFormed}
+use Rattle.receiver.specs.Receiver.{setupOf, setupRefusal, used, unused, wellFormed}
 use Rattle.receiver.specs.declared.Receiver.{Receiver}
 
 pub record Sound (r : Receiver) : Type 0 where
-  pub settings : settingsRefusal (r .q) (r .n) (r .k) ≡ 0
+  pub settings : setupRefusal (setupOf r) ≡ 0
   pub fits : r .dimension ≤ r .n
   pub reduced : Reduced (r .q) (r .n) (r .dimension) (used r)
   pub rest : (i : ℕ) → i < 256 → r .dimension * r .n ≤ i → getD (r .entries) i 0 ≡ 0
@@ -37,10 +37,10 @@ module _ (r : Receiver) where
   unfolding wellFormed
   sound size w =
       let t₀ = holds (wellFormed r) w in
-      let t₁ = and-right (eqb (settingsRefusal (r .q) (r .n) (r .k)) 0) _ t₀ in
+      let t₁ = and-right (eqb (setupRefusal (setupOf r)) 0) _ t₀ in
       let t₂ = and-right (leb (r .dimension) (r .n)) _ t₁ in
       let t₃ = and-right (entriesBelow (r .q) (used r)) _ t₂ in
-      let s : settingsRefusal (r .q) (r .n) (r .k) ≡ 0 = eqb→eq _ 0 (and-left (eqb (settingsRefusal (r .q) (r .n) (r .k)) 0) _ t₀) in
+      let s : setupRefusal (setupOf r) ≡ 0 = eqb→eq _ 0 (and-left (eqb (setupRefusal (setupOf r)) 0) _ t₀) in
       let h : r .dimension ≤ r .n = leb→le _ _ (and-left (leb (r .dimension) (r .n)) _ t₁) in
       let fit : r .dimension * r .n ≤ 256 = used-fit (r .q) (r .n) (r .k) (r .dimension) s h in
       let l : length (used r) ≡ r .dimension * r .n = length-take-le (r .dimension * r .n) (r .entries) (omega (arith, fit)) in

@@ -7,7 +7,7 @@
 -- Assumes nothing.
 use mathlib.Core.Path.{_≡_, refl, ap, ap₂, sym, _∙_, subst}
 use mathlib.Core.Bool.{Bool, true, false, _&&_}
-use mathlib.Core.List.{List, [], _∷_, _++_}
+use mathlib.Core.List.{[], _∷_, _++_}
 use Prim.Native.Nat.{ℕ}
 use native.Mathlib.Decide.{ℕ-discrete}
 use native.Mathlib.Omega.{arith}
@@ -27,39 +27,39 @@ use Rattle.numbering.specs.Numbering.{isNumbering}
 use Rattle.receive.specs.Answer.{Told}
 use Rattle.receive.specs.laws.Space.{space-told, refused-told}
 use Rattle.receive.specs.declared.Received.{Received}
-use Rattle.receiver.specs.Receiver.{used, wellFormed, heldRows, holding, isZero, takeRefusal, takenIn, takeOf, closeRefusal, closeOf}
-use Rattle.receiver.specs.Receiver.{takenAs, takeNumber, takeRaised, takeIdle, TakeTells}
+use Rattle.receiver.specs.Receiver.{Offer, used, wellFormed, heldRows, holding, isZero, takeRefusal, takenIn, takeOf}
+use Rattle.receiver.specs.Receiver.{closeRefusal, closeOf, takenAs, takeNumber, takeRaised, takeIdle, TakeTells}
 use Rattle.receiver.specs.laws.Sound.{Sound, sound}
 use Rattle.receiver.specs.laws.Untouched.{spanned-untouched, zero-spanned, held-spanned}
 use Rattle.receiver.specs.declared.Receiver.{Receiver}
 use Rattle.receiver.specs.declared.Taken.{Taken}
 use Rattle.receiver.specs.declared.TakeAnswer.the-variants.{Raised, Held, Idle}
 
-pub record TakeAccepted (r : Receiver) (row : List ℕ) : Type 0 where
+pub record TakeAccepted (r : Receiver) (o : Offer) : Type 0 where
   pub formed : wellFormed r ≡ true
-  pub sized : length row ≡ r .n
-  pub below : T (entriesBelow (r .q) row)
+  pub sized : length (o .row) ≡ r .n
+  pub below : T (entriesBelow (r .q) (o .row))
 
-module _ (r : Receiver) (row : List ℕ) where
-  pub take-accepted : takeRefusal r row ≡ 0 → TakeAccepted r row
+module _ (r : Receiver) (o : Offer) where
+  pub take-accepted : takeRefusal r o ≡ 0 → TakeAccepted r o
   unfolding takeRefusal
   take-accepted z =
-      let entries = refuseUnless (entriesBelow (r .q) row) entryRefusal ∷ [] in
-      let f = test-zero (wellFormed r) receiverRefusal (refuseUnless (eqb (length row) (r .n)) lengthRefusal ∷ entries) tt z in
-      let l = test-zero (eqb (length row) (r .n)) lengthRefusal entries tt (f .1) in
+      let entries = refuseUnless (entriesBelow (r .q) (o .row)) entryRefusal ∷ [] in
+      let f = test-zero (wellFormed r) receiverRefusal (refuseUnless (eqb (length (o .row)) (r .n)) lengthRefusal ∷ entries) tt z in
+      let l = test-zero (eqb (length (o .row)) (r .n)) lengthRefusal entries tt (f .1) in
       record {
         formed = f .0;
-        sized = eqb-true (length row) (r .n) (l .0);
-        below = holds (entriesBelow (r .q) row) (test-zero (entriesBelow (r .q) row) entryRefusal [] tt (l .1) .0);
+        sized = eqb-true (length (o .row)) (r .n) (l .0);
+        below = holds (entriesBelow (r .q) (o .row)) (test-zero (entriesBelow (r .q) (o .row)) entryRefusal [] tt (l .1) .0);
       }
 
-  pub accepted-row : TakeAccepted r row → Row (r .q) (r .n) row
-  accepted-row a = (a .sized, all-of 0 row (entries-below (r .q) row (a .below)))
+  pub accepted-row : TakeAccepted r o → Row (r .q) (r .n) (o .row)
+  accepted-row a = (a .sized, all-of 0 (o .row) (entries-below (r .q) (o .row) (a .below)))
 
-  pub take-unrefused : wellFormed r ≡ true → length row ≡ r .n → entriesBelow (r .q) row ≡ true → takeRefusal r row ≡ 0
+  pub take-unrefused : wellFormed r ≡ true → length (o .row) ≡ r .n → entriesBelow (r .q) (o .row) ≡ true → takeRefusal r o ≡ 0
   unfolding takeRefusal
   take-unrefused w l e =
-      test-passed _ _ _ w ∙ test-passed _ _ _ (eq-eqb (length row) (r .n) l) ∙ test-passed _ _ _ e ∙ first-none
+      test-passed _ _ _ w ∙ test-passed _ _ _ (eq-eqb (length (o .row)) (r .n) l) ∙ test-passed _ _ _ e ∙ first-none
 
   -- what the answers for a row taken in tell, where a zero row does not let the dimension grow
   accepted-number : (zero grew : Bool) → takeNumber (pick zero Idle (pick grew Raised Held)) ≡ 0
@@ -79,58 +79,58 @@ module _ (r : Receiver) (row : List ℕ) where
 
   module _ (size : length (r .entries) ≡ 256) where
     -- a row that is not refused
-    taken-told : takeRefusal r row ≡ 0 → TakeTells r row (takenIn r row)
+    taken-told : takeRefusal r o ≡ 0 → TakeTells r o (takenIn r o)
     unfolding takenIn holding
     taken-told z =
         record {
-          number = accepted-number (isZero row) grew ∙ sym z;
+          number = accepted-number (isZero (o .row)) grew ∙ sym z;
           raised = raised;
-          idle = accepted-idle (isZero row) grew ∙ ap (λ b. b && isZero row) (sym (eq-eqb (takeRefusal r row) 0 z));
-          untouched = λ e. left (held-spanned r size s row (accepted-row a) (ltb-false (r .dimension) _ (sym raised ∙ e)));
+          idle = accepted-idle (isZero (o .row)) grew ∙ ap (λ b. b && isZero (o .row)) (sym (eq-eqb (takeRefusal r o) 0 z));
+          untouched = λ e. left (held-spanned r size s (o .row) (accepted-row a) (ltb-false (r .dimension) _ (sym raised ∙ e)));
         }
       where
-        a : TakeAccepted r row
+        a : TakeAccepted r o
         a = take-accepted z
 
         s : Sound r
         s = sound r size (a .formed)
 
         -- a row in the span leaves the receiver
-        left : InSpan (r .q) (r .n) (heldRows r) row → (takenIn r row) .receiver ≡ r
-        left i = spanned-untouched r size s row i
+        left : InSpan (r .q) (r .n) (heldRows r) (o .row) → (takenIn r o) .receiver ≡ r
+        left i = spanned-untouched r size s (o .row) i
 
         grew : Bool
-        grew = ltb (r .dimension) (((takenIn r row) .receiver) .dimension)
+        grew = ltb (r .dimension) (((takenIn r o) .receiver) .dimension)
 
-        still : isZero row ≡ true → grew ≡ false
+        still : isZero (o .row) ≡ true → grew ≡ false
         still e =
-            let same = ap (λ x. x .dimension) (left (zero-spanned r size s row (a .sized) e)) in
-            le-ltb (r .dimension) (((takenIn r row) .receiver) .dimension) (omega (arith, same))
+            let same = ap (λ x. x .dimension) (left (zero-spanned r size s (o .row) (a .sized) e)) in
+            le-ltb (r .dimension) (((takenIn r o) .receiver) .dimension) (omega (arith, same))
 
-        raised : takeRaised ((takenIn r row) .answer) ≡ grew
-        raised = accepted-raised (isZero row) grew still
+        raised : takeRaised ((takenIn r o) .answer) ≡ grew
+        raised = accepted-raised (isZero (o .row)) grew still
 
     -- a zero row leaves the receiver, and is idle
-    pub zero-idle : takeRefusal r row ≡ 0 → isZero row ≡ true → takenAs r Idle ≡ takenIn r row
+    pub zero-idle : takeRefusal r o ≡ 0 → isZero (o .row) ≡ true → takenAs r Idle ≡ takenIn r o
     unfolding takenIn
     zero-idle z e =
         let a = take-accepted z in
         let s = sound r size (a .formed) in
-        ap₂ takenAs (sym (spanned-untouched r size s row (zero-spanned r size s row (a .sized) e)))
-        (ap (λ b. pick b Idle (pick (ltb (r .dimension) (dimension (r .q) (r .n) (heldRows r ++ (row ∷ [])))) Raised Held)) (sym e))
+        ap₂ takenAs (sym (spanned-untouched r size s (o .row) (zero-spanned r size s (o .row) (a .sized) e)))
+        (ap (λ b. pick b Idle (pick (ltb (r .dimension) (dimension (r .q) (r .n) (heldRows r ++ (o .row ∷ [])))) Raised Held)) (sym e))
 
-    pub take-told : (a : Taken) → a ≡ takeOf r row → TakeTells r row a
+    pub take-told : (a : Taken) → a ≡ takeOf r o → TakeTells r o a
     unfolding takeOf
-    take-told a e = cases (ℕ-discrete (takeRefusal r row) 0)
+    take-told a e = cases (ℕ-discrete (takeRefusal r o) 0)
       where
-        cases : Dec (takeRefusal r row ≡ 0) → TakeTells r row a
-        cases (yes z) = subst (TakeTells r row) (done _ _ _ z ∙ sym e) (taken-told z)
+        cases : Dec (takeRefusal r o ≡ 0) → TakeTells r o a
+        cases (yes z) = subst (TakeTells r o) (done _ _ _ z ∙ sym e) (taken-told z)
         cases (no z) =
-            subst (TakeTells r row) (kept _ _ _ z ∙ sym e)
+            subst (TakeTells r o) (kept _ _ _ z ∙ sym e)
             (record {
               number = refl;
               raised = sym (le-ltb (r .dimension) _ (omega arith));
-              idle = sym (ap (λ b. b && isZero row) (ne-eqb (takeRefusal r row) 0 z));
+              idle = sym (ap (λ b. b && isZero (o .row)) (ne-eqb (takeRefusal r o) 0 z));
               untouched = λ _. refl;
             })
 

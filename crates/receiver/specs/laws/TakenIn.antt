@@ -31,7 +31,7 @@ use Rattle.reduction.specs.laws.Leads.{leads-known}
 use Rattle.reduction.specs.Padded.{padded}
 use Rattle.rows.specs.laws.Puts.{rows-front}
 use Rattle.reduction.specs.laws.Steps.{leads}
-use Rattle.receiver.specs.Receiver.{used, heldRows, holding, isZero, takenIn, takenAs}
+use Rattle.receiver.specs.Receiver.{Offer, setupOf, made, used, heldRows, holding, isZero, takenIn, takenAs}
 use Rattle.receiver.specs.laws.Sound.{Sound, used-fit}
 use Rattle.receiver.specs.laws.Held.{settings-laws, held-kept, held-join, held-length, rest-zero}
 use Rattle.receiver.specs.declared.Receiver.{Receiver}
@@ -100,19 +100,19 @@ module _ (r : Receiver) (size : length (r .entries) ≡ 256) (s : Sound r) where
       ∙ ap (λ (x : List ℕ). rowsOf (r .n) (r .dimension) (x ++ drop size lent)) (sym (take-take size (r .n * r .n) (r .entries) used-lent))
       ∙ ap (rowsOf (r .n) (r .dimension)) (take-append-drop size lent))
 
-  module _ (row : List ℕ) (hr : Row (r .q) (r .n) row) where
+  module _ (o : Offer) (hr : Row (r .q) (r .n) (o .row)) where
     -- the rows that come out
     abbrev out : List (List ℕ)
-    out = insertRow (r .q) (r .n) (heldRows r) row
+    out = insertRow (r .q) (r .n) (heldRows r) (o .row)
 
-    new : reducedRows (r .q) (r .n) (heldRows r ++ (row ∷ [])) ≡ out
+    new : reducedRows (r .q) (r .n) (heldRows r ++ (o .row ∷ [])) ≡ out
     new =
         let kept = held-kept r size s in
-        reducedRows-more (r .q) (r .n) (heldRows r) row
-        ∙ ap (λ x. insertRow (r .q) (r .n) x row) (reducedRows-again (r .q) law (r .n) (heldRows r) (kept .rows) (kept .reduced))
+        reducedRows-more (r .q) (r .n) (heldRows r) (o .row)
+        ∙ ap (λ x. insertRow (r .q) (r .n) x (o .row)) (reducedRows-again (r .q) law (r .n) (heldRows r) (kept .rows) (kept .reduced))
 
     out-kept : Kept (r .q) (r .n) out
-    out-kept = insert-kept (r .q) law (r .n) (heldRows r) (held-kept r size s) row hr
+    out-kept = insert-kept (r .q) law (r .n) (heldRows r) (held-kept r size s) (o .row) hr
 
     out-size : length (join out) ≡ length out * r .n
     out-size = join-length (r .n) (rows-sized (r .q) (r .n) (out-kept .rows))
@@ -120,46 +120,44 @@ module _ (r : Receiver) (size : length (r .entries) ≡ 256) (s : Sound r) where
     out-fits : length out * r .n ≤ r .n * r .n
     out-fits = mul-le-mul-right (r .n) (reduced-le (r .q) (r .n) (length out) (join out) (out-kept .reduced))
 
-    module _ (d : ℕ) (after : List ℕ) (count : d ≡ length (insertRow (r .q) (r .n) (rowsOf (r .n) (r .dimension) lent) row))
-        (bytes : after ≡ padded (r .n * r .n) (join (insertRow (r .q) (r .n) (rowsOf (r .n) (r .dimension) lent) row))) where
+    module _ (d : ℕ) (after : List ℕ) (count : d ≡ length (insertRow (r .q) (r .n) (rowsOf (r .n) (r .dimension) lent) (o .row)))
+        (bytes : after ≡ padded (r .n * r .n) (join (insertRow (r .q) (r .n) (rowsOf (r .n) (r .dimension) lent) (o .row)))) where
       -- the receiver that comes out
       abbrev left : Receiver
-      left = record { entries = after ++ drop (r .n * r .n) (r .entries); q = r .q; n = r .n; k = r .k; dimension = d }
+      left = made (setupOf r) d (after ++ drop (r .n * r .n) (r .entries))
 
       here : d ≡ length out
-      here = count ∙ ap (λ x. length (insertRow (r .q) (r .n) x row)) lent-rows
+      here = count ∙ ap (λ x. length (insertRow (r .q) (r .n) x (o .row))) lent-rows
 
-      dimensions : d ≡ length (reducedRows (r .q) (r .n) (heldRows r ++ (row ∷ [])))
+      dimensions : d ≡ length (reducedRows (r .q) (r .n) (heldRows r ++ (o .row ∷ [])))
       dimensions = here ∙ ap length (sym new)
 
-      entries : after ++ drop (r .n * r .n) (r .entries) ≡ padded 256 (join (reducedRows (r .q) (r .n) (heldRows r ++ (row ∷ []))))
+      entries : after ++ drop (r .n * r .n) (r .entries) ≡ padded 256 (join (reducedRows (r .q) (r .n) (heldRows r ++ (o .row ∷ []))))
       unfolding padded
       entries =
           let more : r .n * r .n - length (join out) + (256 - r .n * r .n) ≡ 256 - length (join out) =
           omega (arith, out-size, out-fits, lent-fits) in
-          ap₂ (λ (x y : List ℕ). x ++ y) (bytes ∙ ap (λ x. padded (r .n * r .n) (join (insertRow (r .q) (r .n) x row))) lent-rows)
+          ap₂ (λ (x y : List ℕ). x ++ y) (bytes ∙ ap (λ x. padded (r .n * r .n) (join (insertRow (r .q) (r .n) x (o .row)))) lent-rows)
           (rest-zero r size s (r .n * r .n) used-lent)
           ∙ append-assoc (join out) (replicate (r .n * r .n - length (join out)) 0) (replicate (256 - r .n * r .n) 0)
           ∙ ap (λ (x : List ℕ). join out ++ x)
           (replicate-append-replicate (r .n * r .n - length (join out)) (256 - r .n * r .n) 0 ∙ ap (λ x. replicate x 0) more)
           ∙ ap (λ x. padded 256 (join x)) (sym new)
 
-      -- the dimension with the row
+      -- the dimension with the (o .row)
       abbrev next : ℕ
-      next = dimension (r .q) (r .n) (heldRows r ++ (row ∷ []))
+      next = dimension (r .q) (r .n) (heldRows r ++ (o .row ∷ []))
 
-      module _ (nonzero : isZero row ≡ false) where
-        taken-in : _≡_ {A = Taken} (takenAs left (pick (ltb (r .dimension) d) Raised Held)) (takenIn r row)
+      module _ (nonzero : isZero (o .row) ≡ false) where
+        taken-in : _≡_ {A = Taken} (takenAs left (pick (ltb (r .dimension) d) Raised Held)) (takenIn r o)
         unfolding takenIn holding dimension reducedOf
         taken-in =
             ap₂
-            (λ (e : List ℕ) (x : ℕ).
-            takenAs (record { entries = e; q = r .q; n = r .n; k = r .k; dimension = x }) (pick (ltb (r .dimension) x) Raised Held))
-            entries dimensions
-            ∙ ap (λ b. takenAs ((takenIn r row) .receiver) (pick b Idle (pick (ltb (r .dimension) next) Raised Held))) (sym nonzero)
+            (λ (e : List ℕ) (x : ℕ). takenAs (made (setupOf r) x e) (pick (ltb (r .dimension) x) Raised Held)) entries dimensions
+            ∙ ap (λ b. takenAs ((takenIn r o) .receiver) (pick b Idle (pick (ltb (r .dimension) next) Raised Held))) (sym nonzero)
 
-        pub taken-raised : r .dimension < d → takenAs left Raised ≡ takenIn r row
+        pub taken-raised : r .dimension < d → takenAs left Raised ≡ takenIn r o
         taken-raised h = ap (λ b. takenAs left (pick b Raised Held)) (sym (lt-ltb (r .dimension) d h)) ∙ taken-in
 
-        pub taken-held : d ≤ r .dimension → takenAs left Held ≡ takenIn r row
+        pub taken-held : d ≤ r .dimension → takenAs left Held ≡ takenIn r o
         taken-held h = ap (λ b. takenAs left (pick b Raised Held)) (sym (le-ltb (r .dimension) d h)) ∙ taken-in

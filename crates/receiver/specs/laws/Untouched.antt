@@ -15,7 +15,7 @@ use Rattle.linear.specs.Span.{All, Row, InSpan}
 use Rattle.linear.specs.Eliminate.{dimension}
 use Rattle.linear.specs.laws.Mixture.{span-zero}
 use Rattle.linear.specs.laws.OneMore.{dimension-raised, span-decide}
-use Rattle.receiver.specs.Receiver.{heldRows, holding, isZero}
+use Rattle.receiver.specs.Receiver.{setupOf, heldRows, holding, isZero}
 use Rattle.receiver.specs.laws.Sound.{Sound}
 use Rattle.receiver.specs.laws.Held.{settings-laws, held-kept, held-again, holding-held}
 use Rattle.receiver.specs.declared.Receiver.{Receiver}
@@ -27,8 +27,8 @@ module _ (r : Receiver) (size : length (r .entries) ≡ 256) (s : Sound r) (row 
   rows : All (Row (r .q) (r .n)) (heldRows r)
   rows = held-kept r size s .rows
 
-  pub spanned-untouched : InSpan (r .q) (r .n) (heldRows r) row → holding (r .q) (r .n) (r .k) (heldRows r ++ (row ∷ [])) ≡ r
-  spanned-untouched i = holding-held (r .q) (r .n) (r .k) (s .settings) (heldRows r) rows row i ∙ sym (held-again r size s)
+  pub spanned-untouched : InSpan (r .q) (r .n) (heldRows r) row → holding (setupOf r) (heldRows r ++ (row ∷ [])) ≡ r
+  spanned-untouched i = holding-held (setupOf r) (s .settings) (heldRows r) rows row i ∙ sym (held-again r size s)
 
   pub zero-spanned : length row ≡ r .n → isZero row ≡ true → InSpan (r .q) (r .n) (heldRows r) row
   zero-spanned l z =

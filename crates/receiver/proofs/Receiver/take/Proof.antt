@@ -4,7 +4,7 @@ use lib.ListN.{length}
 use Rattle.basics.specs.Choice.{pick}
 use Rattle.refusal.specs.laws.First.{kept, done}
 use Rattle.matrix.specs.Matrix.{identifying}
-use Rattle.receiver.specs.Receiver.{used, isZero, takeRefusal, takeOf, takenAs}
+use Rattle.receiver.specs.Receiver.{offer, used, isZero, takeRefusal, takeOf, takenAs}
 use Rattle.receiver.specs.laws.TakeAccepted.{take-accepted, zero-idle, take-told}
 use Rattle.receiver.specs.declared.Taken.{Taken}
 use Rattle.receiver.specs.declared.TakeAnswer.the-variants.{Refused}
@@ -15,7 +15,7 @@ use Rattle.receiver.proofs.Receiver.take.Tie as tie
 whole : (c : tie.Start) → length (c .args .self .entries) ≡ 256
 whole c = search needs
 
-unrefused : (c : tie.Else1) → let a = c .before .before .before .before .args in takeRefusal (a .self) (a .row .now) ≡ 0
+unrefused : (c : tie.Else1) → let a = c .before .before .before .before .args in takeRefusal (a .self) (offer (a .row .now)) ≡ 0
 unrefused c = sym (c .before .before .take-refusal .ensures .0) ∙ c .if1 .left
 
 -- what was found of the row
