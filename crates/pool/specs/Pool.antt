@@ -16,7 +16,7 @@ use lib.ListN.{length}
 use Rattle.refusal.specs.Refusal.{lengthRefusal, receiverRefusal, mismatchRefusal, refuseUnless, first, unlessRefused}
 use Rattle.reduction.specs.Padded.{padded}
 use Rattle.spaces.specs.Spaces.{jointOf, jointDimension, commonOf, commonDimension}
-use Rattle.receiver.specs.Receiver.{empty, wellFormed, heldRows, holding}
+use Rattle.receiver.specs.Receiver.{setupOf, noSetup, empty, wellFormed, heldRows, holding}
 use Rattle.receiver.specs.declared.Receiver.{Receiver}
 use Rattle.pool.specs.declared.Pooled.{Pooled}
 use Rattle.pool.specs.declared.PoolAnswer.{PoolAnswer}
@@ -39,7 +39,7 @@ poolRefusal a b joint common =
 unfoldable pub pooled : Receiver → Receiver → Pooled
 pooled a b =
     record {
-      receiver = holding (a .q) (a .n) (a .k) (heldRows a ++ heldRows b);
+      receiver = holding (setupOf a) (heldRows a ++ heldRows b);
       answer =
           Done
           (record {
@@ -51,7 +51,7 @@ pooled a b =
 unfoldable pub poolOf : Receiver → Receiver → ℕ → ℕ → Pooled
 poolOf a b joint common =
     unlessRefused (poolRefusal a b joint common) (pooled a b)
-    (record { receiver = empty 0 0 0; answer = Refused (poolRefusal a b joint common) })
+    (record { receiver = empty noSetup; answer = Refused (poolRefusal a b joint common) })
 
 unfoldable pub jointBuffer : Receiver → Receiver → List ℕ → ℕ → List ℕ
 jointBuffer a b joint common =

@@ -8,7 +8,7 @@ ghost use Rattle.refusal.specs.Refusal.{unlessRefused};
 ghost use Rattle.linear.specs.Eliminate.{join};
 ghost use Rattle.reduction.specs.Padded.{padded};
 ghost use Rattle.spaces.specs.Spaces.{stacked as stackedOf, jointDimension, commonOf, commonDimension};
-ghost use Rattle.receiver.specs.Receiver.{wellFormed, heldRows, holding};
+ghost use Rattle.receiver.specs.Receiver.{setupOf, wellFormed, heldRows, holding};
 ghost use Rattle.pool.specs.Pool.{alike as alikeOf, poolRefusal, poolOf, jointBuffer, commonBuffer};
 ghost use Rattle.pool.specs.Pool.{poolNumber, poolJoint, poolCommon};
 use receiver::Receiver;
@@ -125,7 +125,7 @@ fn common_rows(a: Receiver, b: Receiver, out: &mut [u8]) -> usize
 // The receiver that holds the rows of two receivers with the same settings.
 fn joined(a: Receiver, b: Receiver) -> Receiver
     requires { ⌜ (wellFormed a ≡ true) × (wellFormed b ≡ true) × (alikeOf a b ≡ true) ⌝ }
-    ensures { λ r. ⌜ r ≡ holding (a .q) (a .n) (a .k) (heldRows a ++ heldRows b) ⌝ }
+    ensures { λ r. ⌜ r ≡ holding (setupOf a) (heldRows a ++ heldRows b) ⌝ }
 {
     let width = a.n as usize;
     let size = width * width;
@@ -153,13 +153,10 @@ fn joined(a: Receiver, b: Receiver) -> Receiver
         &mut entries[..size],
         &mut pivots,
     );
-    Receiver {
-        entries,
-        q: a.q,
-        n: a.n,
-        k: a.k,
-        dimension: dimension as u64,
-    }
+    let mut receiver = a;
+    receiver.entries = entries;
+    receiver.dimension = dimension as u64;
+    receiver
 }
 
 // Pool: writes the reduced matrices of the smallest space that contains both receivers' and of their common space, each with zeros after
@@ -178,13 +175,7 @@ pub fn pool(a: Receiver, b: Receiver, joint: &mut [u8], common: &mut [u8]) -> Po
     let refusal = pool_refusal(a, b, joint.len(), common.len());
     if refusal != 0 {
         return Pooled {
-            receiver: Receiver {
-                entries: [0u8; 256],
-                q: 0,
-                n: 0,
-                k: 0,
-                dimension: 0,
-            },
+            receiver: receiver::empty_receiver(0, 0, 0),
             answer: PoolAnswer::Refused(refusal),
         };
     }

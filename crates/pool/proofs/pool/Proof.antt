@@ -6,7 +6,7 @@ use borrow.Author.Needs.{needs}
 use lib.ListN.{length, take}
 use Rattle.refusal.specs.laws.First.{kept, done}
 use Rattle.spaces.specs.Spaces.{jointDimension}
-use Rattle.receiver.specs.Receiver.{empty, holding}
+use Rattle.receiver.specs.Receiver.{holding}
 use Rattle.receiver.specs.declared.Receiver.{Receiver}
 use Rattle.pool.specs.Pool.{poolRefusal, pooled, poolOf, jointBuffer, commonBuffer}
 use Rattle.pool.specs.laws.PoolAccepted.{PoolAccepted, pool-accepted, pool-told}
@@ -20,18 +20,26 @@ pool-refusal-requires : tie.Need-pool-refusal-requires
 pool-refusal-requires c κs = search needs
 
 -- what a refusal and a pooling hand back
-refused : ℕ → Pooled
-refused x = record { receiver = empty 0 0 0; answer = Refused x }
+refused : Receiver → ℕ → Pooled
+refused r x = record { receiver = r; answer = Refused x }
 
 handed : Receiver → ℕ → Pooled
 handed r common = record { receiver = r; answer = Done (record { joint = r .dimension; common = common }) }
 
+empty-receiver-requires : tie.Need-empty-receiver-requires
+empty-receiver-requires c κs = search needs
+
 returns : tie.Need-returns
 unfolding poolRefusal poolOf jointBuffer commonBuffer refused
 returns c =
-    let told = c .before .pool-refusal .ensures in
-    let e = ap refused told ∙ kept _ _ _ (λ z. c .if1 .taken (told ∙ z)) in
-    (e, (kept _ _ _ (λ z. c .if1 .taken (told ∙ z)), (kept _ _ _ (λ z. c .if1 .taken (told ∙ z)), pool-told _ _ _ _ _ e)))
+    let told = c .before .before .pool-refusal .ensures in
+    let e = ap₂ refused (c .empty-receiver .ensures) told ∙ kept _ _ _ (λ z. c .before .if1 .taken (told ∙ z)) in (
+      e,
+      (
+        kept _ _ _ (λ z. c .before .if1 .taken (told ∙ z)),
+        (kept _ _ _ (λ z. c .before .if1 .taken (told ∙ z)), pool-told _ _ _ _ _ e),
+      ),
+    )
 
 unrefused : (c : tie.Else1) →
     let a = c .before .before .before .before .args in
@@ -120,6 +128,7 @@ pool-spec =
     tie.close
     (tie.spec
     pool-refusal-requires
+    empty-receiver-requires
     returns
     common-rows-requires
     joined-requires

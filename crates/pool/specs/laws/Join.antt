@@ -20,7 +20,7 @@ use Rattle.reduction.specs.Padded.{padded}
 use Rattle.reduction.specs.laws.Insert.{padded-length}
 use Rattle.reduction.specs.laws.InsertRows.{Holds, holds-asks, holds-rows}
 use Rattle.reduction.specs.laws.Steps.{leads}
-use Rattle.receiver.specs.Receiver.{wellFormed, heldRows, holding}
+use Rattle.receiver.specs.Receiver.{setupOf, made, wellFormed, heldRows, holding}
 use Rattle.receiver.specs.declared.Receiver.{Receiver}
 use Rattle.pool.specs.Pool.{alike}
 use Rattle.double_rows.specs.laws.Fill.{padded-more}
@@ -113,11 +113,11 @@ module _ (a b : Receiver) (whole-a : length (a .entries) ≡ 256) (whole-b : len
         → r ≡ length (insertRows (a .q) (a .n) (rowsOf (a .n) d (take (a .n * a .n) (m ++ rest))) read-b)
         → after ≡ padded (a .n * a .n) (join (insertRows (a .q) (a .n) (rowsOf (a .n) d (take (a .n * a .n) (m ++ rest))) read-b))
         → _≡_ {A = Receiver}
-        (record { entries = after ++ drop (a .n * a .n) (m ++ rest); q = a .q; n = a .n; k = a .k; dimension = r })
-        (holding (a .q) (a .n) (a .k) (heldRows a ++ heldRows b))
+        (made (setupOf a) r (after ++ drop (a .n * a .n) (m ++ rest)))
+        (holding (setupOf a) (heldRows a ++ heldRows b))
     unfolding holding dimension reducedOf
     second-taken r after count bytes =
-        ap₂ (λ (e : List ℕ) (x : ℕ). record { entries = e; q = a .q; n = a .n; k = a .k; dimension = x }) entries (count ∙ ap length new)
+        ap₂ (λ (e : List ℕ) (x : ℕ). made (setupOf a) x e) entries (count ∙ ap length new)
       where
         new : insertRows (a .q) (a .n) (rowsOf (a .n) d (take (a .n * a .n) (m ++ rest))) read-b
             ≡ reducedRows (a .q) (a .n) (heldRows a ++ heldRows b)

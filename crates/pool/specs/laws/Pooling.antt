@@ -26,7 +26,7 @@ use Rattle.linear.specs.laws.ReducedOf.{reducedOf-reduced, dimension-le}
 use Rattle.reduction.specs.Padded.{padded}
 use Rattle.reduction.specs.laws.Insert.{padded-length}
 use Rattle.spaces.specs.Spaces.{wideRows, stacked, jointOf}
-use Rattle.receiver.specs.Receiver.{wellFormed, heldRows, holding}
+use Rattle.receiver.specs.Receiver.{setupOf, wellFormed, heldRows, holding}
 use Rattle.receiver.specs.laws.Held.{settings-laws, held-used, held-kept}
 use Rattle.receiver.specs.laws.Sound.{Sound, sound, used-fit}
 use Rattle.receiver.specs.declared.Receiver.{Receiver}
@@ -125,7 +125,7 @@ module _ (a b : Receiver) (whole-a : length (a .entries) ≡ 256) (whole-b : len
       omega (arith, R .size, mul-le-mul-right (a .n) (dimension-le (a .q) field-laws (a .n) (heldRows a ++ heldRows b) h))
 
   module _ (old entries : List ℕ) (size : length old ≡ a .n * a .n)
-      (is : entries ≡ (holding (a .q) (a .n) (a .k) (heldRows a ++ heldRows b)) .entries) where
+      (is : entries ≡ (holding (setupOf a) (heldRows a ++ heldRows b)) .entries) where
     pub joint-length : length entries ≡ 256
     unfolding holding
     joint-length = ap length is ∙ padded-length 256 _ (omega (arith, joint-fits, square-fits))
