@@ -17,9 +17,9 @@
 --   Answers q n k i rows answer == the rows have a dimension and an identifying vector. The answer is the index i, unrefused, exactly when
 --                           the dimension is k, and 8 if it is fewer; it is never more. The dimension and the vector that are told are the
 --                           true ones
---   Recovery q n k t i cs == closing after the list cs answers so for the rows that were accepted
+--   Recovery s t i cs    == closing after the list cs answers so for the rows that were accepted
 --   Reception q n k t i rows == Receive of the rows answers so, by value and for C
---   Demand q n k t       == all of it; and of every list of calls, mixtures or not: "No call of the list is refused 14. A row is accepted
+--   Demand s t           == all of it; and of every list of calls, mixtures or not: "No call of the list is refused 14. A row is accepted
 --                           when Take names no refusal for it, so here when it is n bytes, each below q."
 -- Assumes nothing.
 use mathlib.Core.Path.{_≡_}
@@ -38,7 +38,7 @@ use Rattle.receive.specs.Answer.{receivedNumber, receivedIndex, receivedDimensi
 use Rattle.receive.specs.Receive.{receiveOf}
 use Rattle.receive.specs.declared.Received.{Received}
 use Rattle.receive.specs.declared.Received.the-variants.{Done}
-use Rattle.receiver.specs.Receiver.{closeOf}
+use Rattle.receiver.specs.Receiver.{Setup, closeOf}
 use Rattle.pandrwyg.specs.Exported.{answerSize, answerBytes, exportedNumber, exportedBytes}
 use Rattle.recovery.specs.Calls.{Call, begun, after, accepted, offered, fitting, Unforged}
 
@@ -80,10 +80,10 @@ pub record Answers (q n k i : ℕ) (rows : List (List ℕ)) (answer : Answer) : 
   pub never-more : (d : ℕ) → HasDimension q n rows d → d ≤ k
   pub space : (d v : ℕ) → HasVector q n rows d v → (answer .dimension ≡ d) × (answer .vector ≡ v)
 
-pub record Recovery (q n k t i : ℕ) (cs : List Call) : Type 0 where
-  pub answers : Answers q n k i (accepted (begun q n k) cs) (told (closeOf (after (begun q n k) cs) t))
-  pub typed : (v : ℕ) → HasVector q n (accepted (begun q n k) cs) k v
-      → closeOf (after (begun q n k) cs) t ≡ Done (indexIn t i) (record { dimension = k; vector = v })
+pub record Recovery (s : Setup) (t i : ℕ) (cs : List Call) : Type 0 where
+  pub answers : Answers (s .q) (s .n) (s .k) i (accepted (begun s) cs) (told (closeOf (after (begun s) cs) t))
+  pub typed : (v : ℕ) → HasVector (s .q) (s .n) (accepted (begun s) cs) (s .k) v
+      → closeOf (after (begun s) cs) t ≡ Done (indexIn t i) (record { dimension = s .k; vector = v })
 
 pub record Reception (q n k t i : ℕ) (rows : List (List ℕ)) : Type 0 where
   pub answers : Answers q n k i rows (told (receiveOf q n k t (length rows) (join rows)))
@@ -97,13 +97,13 @@ pub record Reception (q n k t i : ℕ) (rows : List (List ℕ)) : Type 0 where
   pub fewer-bytes : (b : List ℕ) → length b ≡ answerSize → (d v : ℕ) → HasVector q n rows d v → d < k
       → exportedBytes q n k t (length rows) (join rows) b ≡ answerBytes 0 d v
 
-pub record Demand (q n k t : ℕ) : Type 0 where
-  pub listing : Listing q n k t
-  pub unforged : (cs : List Call) → Unforged (begun q n k) cs
-  pub fits : (cs : List Call) → accepted (begun q n k) cs ≡ fitting q n (offered cs)
-  pub recovery : (i : ℕ) → i < gaussian q n k → (b : List ℕ) → Buffer n k b → (cs : List Call)
-      → All (Mixed q n (rowsOf n k (drawBuffer q n k t i b))) (accepted (begun q n k) cs)
-      → Recovery q n k t i cs
-  pub reception : (i : ℕ) → i < gaussian q n k → (b : List ℕ) → Buffer n k b → (rows : List (List ℕ)) → length rows ≤ mostRows
-      → All (Mixed q n (rowsOf n k (drawBuffer q n k t i b))) rows
-      → Reception q n k t i rows
+pub record Demand (s : Setup) (t : ℕ) : Type 0 where
+  pub listing : Listing (s .q) (s .n) (s .k) t
+  pub unforged : (cs : List Call) → Unforged (begun s) cs
+  pub fits : (cs : List Call) → accepted (begun s) cs ≡ fitting s (offered cs)
+  pub recovery : (i : ℕ) → i < gaussian (s .q) (s .n) (s .k) → (b : List ℕ) → Buffer (s .n) (s .k) b → (cs : List Call)
+      → All (Mixed (s .q) (s .n) (rowsOf (s .n) (s .k) (drawBuffer (s .q) (s .n) (s .k) t i b))) (accepted (begun s) cs)
+      → Recovery s t i cs
+  pub reception : (i : ℕ) → i < gaussian (s .q) (s .n) (s .k) → (b : List ℕ) → Buffer (s .n) (s .k) b → (rows : List (List ℕ)) → length rows ≤ mostRows
+      → All (Mixed (s .q) (s .n) (rowsOf (s .n) (s .k) (drawBuffer (s .q) (s .n) (s .k) t i b))) rows
+      → Reception (s .q) (s .n) (s .k) t i rows

@@ -19,7 +19,7 @@ use Rattle.receive.specs.Answer.{receivedNumber, receivedIndex, receivedDimensi
 use Rattle.receive.specs.Receive.{receiveOf}
 use Rattle.receive.specs.declared.Received.{Received}
 use Rattle.receive.specs.declared.Received.the-variants.{Done}
-use Rattle.receiver.specs.Receiver.{closeOf}
+use Rattle.receiver.specs.Receiver.{setup, closeOf}
 use Rattle.pandrwyg.specs.Exported.{answerSize, answerBytes, exportedNumber, exportedBytes}
 use Rattle.recovery.specs.Calls.{Call, begun, after, accepted, offered, fitting, Unforged}
 use Rattle.recovery.specs.Demand.{littleEndian}
@@ -43,9 +43,9 @@ readsSpace bytes dimension vector = (getD bytes 8 0 ≡ dimension) × (littleEnd
 
 pub demand-3-flat :
     -- "Suppose settings are accepted and have N spaces. Then, in either numbering,
-    (q n k t : ℕ) → settingsRefusal q n k ≡ 0 → isNumbering t ≡ true
+    (q n k t : ℕ) → settingsRefusal q n k ≡ 0 → isNumbering t ≡ true → let s = setup q n k in
     -- drawing 0 to N-1 lists
-    → ((i : ℕ) → i < gaussian q n k → (b : List ℕ) → length b ≡ k * n
+    ((i : ℕ) → i < gaussian q n k → (b : List ℕ) → length b ≡ k * n
     → (drawRefusal q n k t i (length b) ≡ 0) × Reduced q n k (drawBuffer q n k t i b))
     -- every reduced k-by-n matrix
     × ((m : List ℕ) → Reduced q n k m
@@ -57,23 +57,23 @@ pub demand-3-flat :
     × ((i j : ℕ) → i < j → j < gaussian q n k → (a b : List ℕ) → length a ≡ k * n → length b ≡ k * n
     → before q n k t (drawBuffer q n k t i a) (drawBuffer q n k t j b))
     -- (No call of a list is refused 14, and a row is accepted exactly when it is n bytes, each below q, mixture or not.)
-    × ((cs : List Call) → Unforged (begun q n k) cs × (accepted (begun q n k) cs ≡ fitting q n (offered cs)))
+    × ((cs : List Call) → Unforged (begun s) cs × (accepted (begun s) cs ≡ fitting s (offered cs)))
     -- Draw any one of them,
     × ((i : ℕ) → i < gaussian q n k → (b : List ℕ) → length b ≡ k * n
     -- and let rows be mixed from its rows over the field, in whatever way and sequence. Then for every list of Take and Close calls on one
     -- receiver, refused ones included, from a fresh Start with these settings, in which every row accepted is such a mixture:
-    → ((cs : List Call) → All (Mixed q n (rowsOf n k (drawBuffer q n k t i b))) (accepted (begun q n k) cs)
+    → ((cs : List Call) → All (Mixed q n (rowsOf n k (drawBuffer q n k t i b))) (accepted (begun s) cs)
     -- (the accepted rows have a dimension, at most k, and an identifying vector;)
-    → ((d v : ℕ) × HasVector q n (accepted (begun q n k) cs) d v)
-    × ((d : ℕ) → HasDimension q n (accepted (begun q n k) cs) d → d ≤ k)
+    → ((d v : ℕ) × HasVector q n (accepted (begun s) cs) d v)
+    × ((d : ℕ) → HasDimension q n (accepted (begun s) cs) d → d ≤ k)
     -- closing after it, in the draw's numbering, gives back the drawn index, unrefused, exactly when the accepted rows span k dimensions;
-    × (tells (closeOf (after (begun q n k) cs) t) 0 i ↔ HasDimension q n (accepted (begun q n k) cs) k)
-    × ((v : ℕ) → HasVector q n (accepted (begun q n k) cs) k v
-    → closeOf (after (begun q n k) cs) t ≡ Done (indexIn t i) (record { dimension = k; vector = v }))
+    × (tells (closeOf (after (begun s) cs) t) 0 i ↔ HasDimension q n (accepted (begun s) cs) k)
+    × ((v : ℕ) → HasVector q n (accepted (begun s) cs) k v
+    → closeOf (after (begun s) cs) t ≡ Done (indexIn t i) (record { dimension = k; vector = v }))
     -- if fewer, it refuses with 8
-    × ((d : ℕ) → HasDimension q n (accepted (begun q n k) cs) d → d < k → tells (closeOf (after (begun q n k) cs) t) 8 0)
+    × ((d : ℕ) → HasDimension q n (accepted (begun s) cs) d → d < k → tells (closeOf (after (begun s) cs) t) 8 0)
     -- and their true dimension. (It tells the true dimension either way, and with it the true identifying vector.)
-    × ((d v : ℕ) → HasVector q n (accepted (begun q n k) cs) d v → tellsSpace (closeOf (after (begun q n k) cs) t) d v))
+    × ((d v : ℕ) → HasVector q n (accepted (begun s) cs) d v → tellsSpace (closeOf (after (begun s) cs) t) d v))
     -- Receive, given none to 64 such rows in one call, in that numbering,
     × ((rows : List (List ℕ)) → length rows ≤ 64 → All (Mixed q n (rowsOf n k (drawBuffer q n k t i b))) rows
     -- answers alike for them."
@@ -94,7 +94,7 @@ pub demand-3-flat :
     × ((d v : ℕ) → HasVector q n rows d v → d < k → exportedBytes q n k t (length rows) (join rows) a ≡ answerBytes 0 d v)
     × ((d v : ℕ) → HasVector q n rows d v → readsSpace (exportedBytes q n k t (length rows) (join rows) a) d v))))
 demand-3-flat q n k t settings known =
-    let D = demand-3 q n k t settings known in
+    let D = demand-3 (setup q n k) t settings known in
     let L = D .listing in (
       λ i h b l. (L .unrefused i h b l, L .reduced i h b l),
       L .every,

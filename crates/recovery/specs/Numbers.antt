@@ -31,7 +31,7 @@ use Rattle.convert.specs.laws.ConvertAccepted.{convert-unrefused, convert-done}
 use Rattle.reduce.specs.Reduce.{mostRows}
 use Rattle.receive.specs.Answer.{spaceAnswer}
 use Rattle.receive.specs.Receive.{receiveOf}
-use Rattle.receiver.specs.Receiver.{closeOf}
+use Rattle.receiver.specs.Receiver.{setup, closeOf}
 use Rattle.pandrwyg.specs.Exported.{answerSize, exportedOf}
 use Rattle.recovery.specs.Calls.{Call, begun, after, accepted}
 use Rattle.recovery.specs.Demand.{Buffer}
@@ -55,8 +55,10 @@ pub record Numbers (q n k t : ℕ) : Type 0 where
       → (d : ℕ) (m : List ℕ) → Reduced q n d m → SameSpan q n (rowsOf n d m) rows
       → (receiveOf q n k t (length rows) (join rows) ≡ spaceAnswer q n k t d m)
       × (exportedOf q n k t (length rows) (join rows) answerSize ≡ spaceAnswer q n k t d m)
-  pub closed : (cs : List Call) (d : ℕ) (m : List ℕ) → Reduced q n d m → SameSpan q n (rowsOf n d m) (accepted (begun q n k) cs)
-      → closeOf (after (begun q n k) cs) t ≡ spaceAnswer q n k t d m
+  pub closed :
+      let s = setup q n k in
+      (cs : List Call) (d : ℕ) (m : List ℕ) → Reduced q n d m → SameSpan q n (rowsOf n d m) (accepted (begun s) cs)
+      → closeOf (after (begun s) cs) t ≡ spaceAnswer q n k t d m
 
 module _ (q n k : ℕ) (settings : settingsRefusal q n k ≡ 0) where
   orderly : (t : ℕ) → Orderly (numberingOf t) q n k
@@ -91,11 +93,11 @@ module _ (q n k : ℕ) (settings : settingsRefusal q n k ≡ 0) where
         drawn-back =
             λ m R b l.
             let below = orderly t .index-below m R in
-            sym (leaves q n k t settings known (indexOf q n k t m) below b l)
+            sym (leaves (setup q n k) t settings known (indexOf q n k t m) below b l)
             ∙ sym (drawn-exactly q n k t settings (indexOf q n k t m) below m .0 (R, refl));
         numbered-back =
             λ i h b l.
-            ap (numberOf q n k t) (sym (leaves q n k t settings known i h b l))
+            ap (numberOf q n k t) (sym (leaves (setup q n k) t settings known i h b l))
             ∙ numbers t known (drawn q n k t i) (orderly t .drawn-reduced i h)
             ∙ ap (λ x. Done (indexIn t x)) (orderly t .index-of-drawn i h);
         converted = λ to other m R. converts t to known other m R;
@@ -110,13 +112,14 @@ module _ (q n k : ℕ) (settings : settingsRefusal q n k ≡ 0) where
             );
         closed =
             λ cs d m R s.
-            close-after q n k t settings known cs ∙ spanned t (accepted (begun q n k) cs) (accepted-rows q n k settings cs) d m R s;
+            let x = setup q n k in
+            close-after x t settings known cs ∙ spanned t (accepted (begun x) cs) (accepted-rows x settings cs) d m R s;
       }
 
 pub demand-2-flat :
-    (q n k t : ℕ) → settingsRefusal q n k ≡ 0 → isNumbering t ≡ true
+    (q n k t : ℕ) → settingsRefusal q n k ≡ 0 → isNumbering t ≡ true → let s = setup q n k in
     -- "A reduced matrix gets the extended or Ferrers index that Silberstein and Etzion define,
-    → ((m : List ℕ) → Reduced q n k m → numberOf q n k t m ≡ Done (indexIn t (indexOf q n k t m)))
+    ((m : List ℕ) → Reduced q n k m → numberOf q n k t m ≡ Done (indexIn t (indexOf q n k t m)))
     -- and an index below the count gets the matrix with that index.
     × ((m : List ℕ) → Reduced q n k m → (b : List ℕ) → length b ≡ k * n → drawBuffer q n k t (indexOf q n k t m) b ≡ m)
     × ((i : ℕ) → i < gaussian q n k → (b : List ℕ) → length b ≡ k * n → numberOf q n k t (drawBuffer q n k t i b) ≡ Done (indexIn t i))
@@ -131,8 +134,8 @@ pub demand-2-flat :
     → (d : ℕ) (m : List ℕ) → Reduced q n d m → SameSpan q n (rowsOf n d m) rows
     → (receiveOf q n k t (length rows) (join rows) ≡ spaceAnswer q n k t d m)
     × (exportedOf q n k t (length rows) (join rows) answerSize ≡ spaceAnswer q n k t d m))
-    × ((cs : List Call) (d : ℕ) (m : List ℕ) → Reduced q n d m → SameSpan q n (rowsOf n d m) (accepted (begun q n k) cs)
-    → closeOf (after (begun q n k) cs) t ≡ spaceAnswer q n k t d m)
+    × ((cs : List Call) (d : ℕ) (m : List ℕ) → Reduced q n d m → SameSpan q n (rowsOf n d m) (accepted (begun s) cs)
+    → closeOf (after (begun s) cs) t ≡ spaceAnswer q n k t d m)
 demand-2-flat q n k t settings known =
     let D = demand-2 q n k settings t known in
     (D .by-formula, D .drawn-back, D .numbered-back, D .converted, D .one, D .received, D .closed)

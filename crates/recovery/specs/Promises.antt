@@ -39,7 +39,7 @@ use Rattle.receive.specs.Answer.{spaceAnswer, receivedDimension, receivedVector
 use Rattle.receive.specs.Receive.{receiveOf}
 use Rattle.receive.specs.laws.ReceiveAccepted.{receive-accepted, receive-told}
 use Rattle.receive.specs.laws.Space.{space-many, ones-unless, told-ones}
-use Rattle.receiver.specs.Receiver.{used, closeRefusal, closeOf}
+use Rattle.receiver.specs.Receiver.{setup, used, closeRefusal, closeOf}
 use Rattle.receiver.specs.laws.Sound.{sound}
 use Rattle.receiver.specs.laws.TakeAccepted.{close-accepted, close-told}
 use Rattle.receiver.specs.declared.Receiver.{Receiver}
@@ -95,10 +95,13 @@ module _ (q n k t : ℕ) (settings : settingsRefusal q n k ≡ 0) (known : isNum
       ap told (sym (space-many q n k t (dimension q n rows) (reducedOf q n rows) (omega arith) (omega arith)))
       ∙ ap₂ (λ x y. record { number = 9; index = 0; dimension = x; vector = y }) (e .0) (e .1)
 
-  pub close-more : (cs : List Call) (d v : ℕ) → HasVector q n (accepted (begun q n k) cs) d v → k < d
-      → told (closeOf (after (begun q n k) cs) t) ≡ record { number = 9; index = 0; dimension = d; vector = v }
+  pub close-more :
+      let s = setup q n k in
+      (cs : List Call) (d v : ℕ) → HasVector q n (accepted (begun s) cs) d v → k < d
+      → told (closeOf (after (begun s) cs) t) ≡ record { number = 9; index = 0; dimension = d; vector = v }
   close-more cs d v has g =
-      ap told (close-after q n k t settings known cs) ∙ more (accepted (begun q n k) cs) (accepted-rows q n k settings cs) d v has g
+      let s = setup q n k in
+      ap told (close-after s t settings known cs) ∙ more (accepted (begun s) cs) (accepted-rows s settings cs) d v has g
 
   pub receive-more : (rows : List (List ℕ)) → All (Row q n) rows → length rows ≤ mostRows → (d v : ℕ) → HasVector q n rows d v → k < d
       → told (receiveOf q n k t (length rows) (join rows)) ≡ record { number = 9; index = 0; dimension = d; vector = v }

@@ -9,7 +9,6 @@ use Prim.Native.Nat.{ℕ, _≤_, _<_}
 use native.Mathlib.Nat.{lt-trans}
 use lib.ListN.{length}
 use Rattle.counts.specs.Gaussian.{gaussian}
-use Rattle.settings.specs.Settings.{settingsRefusal}
 use Rattle.matrix.specs.Matrix.{Reduced}
 use Rattle.linear.specs.Span.{All, Mixed, rowsOf}
 use Rattle.numbering.specs.Numbering.{isNumbering, numberingOf, indexOf, drawn, before}
@@ -18,12 +17,22 @@ use Rattle.numbering.specs.laws.Either.{Orderly, either}
 use Rattle.draw.specs.Draw.{drawRefusal, drawBuffer}
 use Rattle.draw.specs.laws.DrawAccepted.{draw-unrefused, draw-leaves}
 use Rattle.reduce.specs.Reduce.{mostRows}
+use Rattle.receiver.specs.Receiver.{Setup, setupRefusal}
 use Rattle.recovery.specs.Calls.{Call, begun, accepted}
 use Rattle.recovery.specs.Demand.{Buffer, Listing, Recovery, Reception, Demand}
 use Rattle.recovery.specs.laws.After.{accepted-fits, unforged}
 use Rattle.recovery.specs.laws.RecoverRows.{recovered, received}
 
-module _ (q n k t : ℕ) (settings : settingsRefusal q n k ≡ 0) (known : isNumbering t ≡ true) where
+module _ (s : Setup) (t : ℕ) (settings : setupRefusal s ≡ 0) (known : isNumbering t ≡ true) where
+  abbrev q : ℕ
+  q = s .q
+
+  abbrev n : ℕ
+  n = s .n
+
+  abbrev k : ℕ
+  k = s .k
+
   draws : (i : ℕ) → i < gaussian q n k → (b : List ℕ) → Buffer n k b → drawRefusal q n k t i (length b) ≡ 0
   draws i h b l = draw-unrefused q n k t i (length b) (unrefused q n k t settings known) l h
 
@@ -54,13 +63,13 @@ module _ (q n k t : ℕ) (settings : settingsRefusal q n k ≡ 0) (known : isNum
       }
 
   recovery : (i : ℕ) → i < gaussian q n k → (b : List ℕ) → Buffer n k b → (cs : List Call)
-      → All (Mixed q n (rowsOf n k (drawBuffer q n k t i b))) (accepted (begun q n k) cs)
-      → Recovery q n k t i cs
+      → All (Mixed q n (rowsOf n k (drawBuffer q n k t i b))) (accepted (begun s) cs)
+      → Recovery s t i cs
   recovery i h b l cs =
-      subst (λ m. All (Mixed q n (rowsOf n k m)) (accepted (begun q n k) cs) → Recovery q n k t i cs) (leaves i h b l)
+      subst (λ m. All (Mixed q n (rowsOf n k m)) (accepted (begun s) cs) → Recovery s t i cs) (leaves i h b l)
       (λ mixed.
-      subst (λ x. Recovery q n k t x cs) (orderly .index-of-drawn i h)
-      (recovered q n k t settings known (drawn q n k t i) (orderly .drawn-reduced i h) cs mixed))
+      subst (λ x. Recovery s t x cs) (orderly .index-of-drawn i h)
+      (recovered s t settings known (drawn q n k t i) (orderly .drawn-reduced i h) cs mixed))
 
   reception : (i : ℕ) → i < gaussian q n k → (b : List ℕ) → Buffer n k b → (rows : List (List ℕ)) → length rows ≤ mostRows
       → All (Mixed q n (rowsOf n k (drawBuffer q n k t i b))) rows
@@ -71,12 +80,12 @@ module _ (q n k t : ℕ) (settings : settingsRefusal q n k ≡ 0) (known : isNum
       subst (λ x. Reception q n k t x rows) (orderly .index-of-drawn i h)
       (received q n k t settings known (drawn q n k t i) (orderly .drawn-reduced i h) rows few mixed))
 
-pub demand-3 : (q n k t : ℕ) → settingsRefusal q n k ≡ 0 → isNumbering t ≡ true → Demand q n k t
-demand-3 q n k t settings known =
+pub demand-3 : (s : Setup) (t : ℕ) → setupRefusal s ≡ 0 → isNumbering t ≡ true → Demand s t
+demand-3 s t settings known =
     record {
-      listing = listing q n k t settings known;
-      unforged = unforged q n k settings;
-      fits = accepted-fits q n k settings;
-      recovery = recovery q n k t settings known;
-      reception = reception q n k t settings known;
+      listing = listing s t settings known;
+      unforged = unforged s settings;
+      fits = accepted-fits s settings;
+      recovery = recovery s t settings known;
+      reception = reception s t settings known;
     }

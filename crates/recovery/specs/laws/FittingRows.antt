@@ -1,5 +1,5 @@
 -- The rows that Take accepts, by a test; no part of the meaning.
---   fits q n row    == the test of a row: n entries, each below q
+--   fits s o        == the test of what is offered: a row of n entries, each below q
 --   fits-row, row-fits == it holds exactly of a Row
 --   fitting-rows    == the rows that fit are rows
 -- Assumes nothing.
@@ -17,30 +17,31 @@ use Rattle.matrix.specs.Matrix.{entriesBelow}
 use Rattle.matrix.specs.laws.Tests.{entries-below, entries-below-true}
 use Rattle.linear.specs.Span.{All, none, more, Row}
 use Rattle.linear.specs.laws.Every.{all-at, all-of}
+use Rattle.receiver.specs.Receiver.{Setup, Offer}
 use Rattle.recovery.specs.Calls.{fitting}
 
-abbrev pub fits : ℕ → ℕ → List ℕ → Bool
-fits q n row = eqb (length row) n && entriesBelow q row
+abbrev pub fits : Setup → Offer → Bool
+fits s o = eqb (length (o .row)) (s .n) && entriesBelow (s .q) (o .row)
 
-pub fits-row : (q n : ℕ) (row : List ℕ) → fits q n row ≡ true → Row q n row
-fits-row q n row e =
-    let t = holds (fits q n row) e in (
-      eqb→eq (length row) n (and-left (eqb (length row) n) (entriesBelow q row) t),
-      all-of 0 row (entries-below q row (and-right (eqb (length row) n) (entriesBelow q row) t)),
+pub fits-row : (s : Setup) (o : Offer) → fits s o ≡ true → Row (s .q) (s .n) (o .row)
+fits-row s o e =
+    let t = holds (fits s o) e in (
+      eqb→eq (length (o .row)) (s .n) (and-left (eqb (length (o .row)) (s .n)) (entriesBelow (s .q) (o .row)) t),
+      all-of 0 (o .row) (entries-below (s .q) (o .row) (and-right (eqb (length (o .row)) (s .n)) (entriesBelow (s .q) (o .row)) t)),
     )
 
 pub row-below : (q n : ℕ) (row : List ℕ) → Row q n row → entriesBelow q row ≡ true
 row-below q n row h = entries-below-true q row (all-at (h .1) 0)
 
-pub row-fits : (q n : ℕ) (row : List ℕ) → Row q n row → fits q n row ≡ true
-row-fits q n row h = ap₂ _&&_ (eq-eqb (length row) n (h .0)) (row-below q n row h)
+pub row-fits : (s : Setup) (o : Offer) → Row (s .q) (s .n) (o .row) → fits s o ≡ true
+row-fits s o h = ap₂ _&&_ (eq-eqb (length (o .row)) (s .n) (h .0)) (row-below (s .q) (s .n) (o .row) h)
 
-pub fitting-rows : (q n : ℕ) (rows : List (List ℕ)) → All (Row q n) (fitting q n rows)
+pub fitting-rows : (s : Setup) (os : List Offer) → All (Row (s .q) (s .n)) (fitting s os)
 unfolding fitting
-fitting-rows q n [] = none
-fitting-rows q n (row ∷ rows) = cases (fits q n row) refl (fitting-rows q n rows)
+fitting-rows s [] = none
+fitting-rows s (o ∷ os) = cases (fits s o) refl (fitting-rows s os)
   where
-    cases : (b : Bool) → fits q n row ≡ b → All (Row q n) (fitting q n rows)
-        → All (Row q n) (pick b (row ∷ fitting q n rows) (fitting q n rows))
-    cases true e hs = more (fits-row q n row e) hs
+    cases : (b : Bool) → fits s o ≡ b → All (Row (s .q) (s .n)) (fitting s os)
+        → All (Row (s .q) (s .n)) (pick b (o .row ∷ fitting s os) (fitting s os))
+    cases true e hs = more (fits-row s o e) hs
     cases false e hs = hs

@@ -18,7 +18,6 @@ use lib.ListN.{length}
 use Rattle.refusal.specs.Refusal.{lengthRefusal, entryRefusal}
 use Rattle.refusal.specs.laws.First.{test-refused, test-passed, kept, done}
 use Rattle.field.specs.FieldLaws.{Laws}
-use Rattle.settings.specs.Settings.{settingsRefusal}
 use Rattle.matrix.specs.Matrix.{entriesBelow}
 use Rattle.linear.specs.Span.{All, Row}
 use Rattle.linear.specs.Eliminate.{join, insertRow, reducedRows, reducedOf, dimension}
@@ -26,7 +25,8 @@ use Rattle.linear.specs.laws.ReducedOf.{reducedRows-kept}
 use Rattle.linear.specs.laws.SameMatrix.{reducedRows-again}
 use Rattle.linear.specs.laws.OneMore.{reducedRows-more}
 use Rattle.reduction.specs.Padded.{padded}
-use Rattle.receiver.specs.Receiver.{wellFormed, heldRows, holding, takeRefusal, takenIn, takeOf, takenAs, takeNumber, TakeTells}
+use Rattle.receiver.specs.Receiver.{Setup, Offer, setupOf, setupRefusal, made, wellFormed, heldRows, holding}
+use Rattle.receiver.specs.Receiver.{takeRefusal, takenIn, takeOf, takenAs, takeNumber, TakeTells}
 use Rattle.receiver.specs.laws.Sound.{sound, well-formed}
 use Rattle.receiver.specs.laws.Held.{settings-laws, held-kept, held-again, holding-rows, holding-size, holding-sound}
 use Rattle.receiver.specs.laws.TakeAccepted.{take-unrefused, take-told}
@@ -36,63 +36,69 @@ use Rattle.receiver.specs.declared.TakeAnswer.the-variants.{Refused}
 use Rattle.recovery.specs.laws.FittingRows.{fits, row-below}
 
 pub holding-of-well-formed : (r : Receiver) → length (r .entries) ≡ 256 → wellFormed r ≡ true
-    → (r ≡ holding (r .q) (r .n) (r .k) (heldRows r)) × All (Row (r .q) (r .n)) (heldRows r)
+    → (r ≡ holding (setupOf r) (heldRows r)) × All (Row (r .q) (r .n)) (heldRows r)
 holding-of-well-formed r size w = let s = sound r size w in (held-again r size s, held-kept r size s .rows)
 
-module _ (q n k : ℕ) (settings : settingsRefusal q n k ≡ 0) (rows : List (List ℕ)) (h : All (Row q n) rows) where
+module _ (s : Setup) (settings : setupRefusal s ≡ 0) (rows : List (List ℕ)) (h : All (Row (s .q) (s .n)) rows) where
+  abbrev q : ℕ
+  q = s .q
+
+  abbrev n : ℕ
+  n = s .n
+
   law : Laws q
-  law = settings-laws q n k settings
+  law = settings-laws q n (s .k) settings
 
-  pub well-formed-holding : wellFormed (holding q n k rows) ≡ true
-  well-formed-holding = well-formed (holding q n k rows) (holding-size q n k settings rows h) (holding-sound q n k settings rows h)
+  pub well-formed-holding : wellFormed (holding s rows) ≡ true
+  well-formed-holding = well-formed (holding s rows) (holding-size s settings rows h) (holding-sound s settings rows h)
 
-  module _ (row : List ℕ) where
-    pub take-fits : Row q n row → takeRefusal (holding q n k rows) row ≡ 0
+  module _ (o : Offer) where
+    pub take-fits : Row q n (o .row) → takeRefusal (holding s rows) o ≡ 0
     unfolding holding
-    take-fits hr = take-unrefused (holding q n k rows) row well-formed-holding (hr .0) (row-below q n row hr)
+    take-fits hr = take-unrefused (holding s rows) o well-formed-holding (hr .0) (row-below q n (o .row) hr)
 
-    pub take-long : (length row ≡ n → ⊥) → takeRefusal (holding q n k rows) row ≡ lengthRefusal
+    pub take-long : (length (o .row) ≡ n → ⊥) → takeRefusal (holding s rows) o ≡ lengthRefusal
     unfolding holding takeRefusal
-    take-long l = test-passed _ _ _ well-formed-holding ∙ test-refused _ _ _ tt (ne-eqb (length row) n l)
+    take-long l = test-passed _ _ _ well-formed-holding ∙ test-refused _ _ _ tt (ne-eqb (length (o .row)) n l)
 
-    pub take-large : length row ≡ n → fits q n row ≡ false → takeRefusal (holding q n k rows) row ≡ entryRefusal
+    pub take-large : length (o .row) ≡ n → fits s o ≡ false → takeRefusal (holding s rows) o ≡ entryRefusal
     unfolding holding takeRefusal
     take-large l e =
         test-passed _ _ _ well-formed-holding
-        ∙ test-passed _ _ _ (eq-eqb (length row) n l)
-        ∙ test-refused _ _ _ tt (sym (ap (λ b. b && entriesBelow q row) (eq-eqb (length row) n l)) ∙ e)
+        ∙ test-passed _ _ _ (eq-eqb (length (o .row)) n l)
+        ∙ test-refused _ _ _ tt (sym (ap (λ b. b && entriesBelow q (o .row)) (eq-eqb (length (o .row)) n l)) ∙ e)
 
-    pub take-misfits : fits q n row ≡ false → (takeRefusal (holding q n k rows) row ≡ 4) ⊎ (takeRefusal (holding q n k rows) row ≡ 6)
-    take-misfits e = cases (ℕ-discrete (length row) n)
+    pub take-misfits : fits s o ≡ false → (takeRefusal (holding s rows) o ≡ 4) ⊎ (takeRefusal (holding s rows) o ≡ 6)
+    take-misfits e = cases (ℕ-discrete (length (o .row)) n)
       where
-        cases : Dec (length row ≡ n) → (takeRefusal (holding q n k rows) row ≡ 4) ⊎ (takeRefusal (holding q n k rows) row ≡ 6)
+        cases : Dec (length (o .row) ≡ n) → (takeRefusal (holding s rows) o ≡ 4) ⊎ (takeRefusal (holding s rows) o ≡ 6)
         cases (no l) = inl (take-long l)
         cases (yes l) = inr (take-large l e)
 
     -- a reduced row more is a row more
-    one-more : reducedRows q n (heldRows (holding q n k rows) ++ (row ∷ [])) ≡ reducedRows q n (rows ++ (row ∷ []))
+    one-more : reducedRows q n (heldRows (holding s rows) ++ (o .row ∷ [])) ≡ reducedRows q n (rows ++ (o .row ∷ []))
     one-more =
         let among = reducedRows-kept q law n rows h in
-        ap (λ x. reducedRows q n (x ++ (row ∷ []))) (holding-rows q n k settings rows h)
-        ∙ reducedRows-more q n (reducedRows q n rows) row
-        ∙ ap (λ x. insertRow q n x row) (reducedRows-again q law n (reducedRows q n rows) (among .rows) (among .reduced))
-        ∙ sym (reducedRows-more q n rows row)
+        ap (λ x. reducedRows q n (x ++ (o .row ∷ []))) (holding-rows s settings rows h)
+        ∙ reducedRows-more q n (reducedRows q n rows) (o .row)
+        ∙ ap (λ x. insertRow q n x (o .row)) (reducedRows-again q law n (reducedRows q n rows) (among .rows) (among .reduced))
+        ∙ sym (reducedRows-more q n rows (o .row))
 
     -- what Take hands back tells of the row
-    pub take-tells : TakeTells (holding q n k rows) row (takeOf (holding q n k rows) row)
-    take-tells = take-told (holding q n k rows) row (holding-size q n k settings rows h) (takeOf (holding q n k rows) row) refl
+    pub take-tells : TakeTells (holding s rows) o (takeOf (holding s rows) o)
+    take-tells = take-told (holding s rows) o (holding-size s settings rows h) (takeOf (holding s rows) o) refl
 
-    pub take-taken : takeRefusal (holding q n k rows) row ≡ 0
-        → ((takeOf (holding q n k rows) row) .receiver ≡ holding q n k (rows ++ (row ∷ [])))
-        × (takeNumber ((takeOf (holding q n k rows) row) .answer) ≡ 0)
+    pub take-taken : takeRefusal (holding s rows) o ≡ 0
+        → ((takeOf (holding s rows) o) .receiver ≡ holding s (rows ++ (o .row ∷ [])))
+        × (takeNumber ((takeOf (holding s rows) o) .answer) ≡ 0)
     unfolding holding takenIn takeOf reducedOf dimension
     take-taken z = (
-      ap (λ (t : Taken). t .receiver) (sym (done (takeRefusal (holding q n k rows) row) _ _ z))
-          ∙ ap (λ (x : List (List ℕ)). record { entries = padded 256 (join x); q = q; n = n; k = k; dimension = length x }) one-more,
+      ap (λ (t : Taken). t .receiver) (sym (done (takeRefusal (holding s rows) o) _ _ z))
+          ∙ ap (λ (x : List (List ℕ)). made s (length x) (padded 256 (join x))) one-more,
       take-tells .number ∙ z,
     )
 
-    pub take-kept : (takeRefusal (holding q n k rows) row ≡ 0 → ⊥)
-        → takeOf (holding q n k rows) row ≡ takenAs (holding q n k rows) (Refused (takeRefusal (holding q n k rows) row))
+    pub take-kept : (takeRefusal (holding s rows) o ≡ 0 → ⊥)
+        → takeOf (holding s rows) o ≡ takenAs (holding s rows) (Refused (takeRefusal (holding s rows) o))
     unfolding takeOf
-    take-kept z = sym (kept (takeRefusal (holding q n k rows) row) _ _ z)
+    take-kept z = sym (kept (takeRefusal (holding s rows) o) _ _ z)

@@ -11,10 +11,9 @@ use mathlib.Core.List.{List, [], _∷_, _++_, append-nil, append-assoc}
 use mathlib.Core.Logic.{_↔_}
 use Prim.Native.Nat.{ℕ}
 use lib.ListN.{length}
-use Rattle.settings.specs.Settings.{settingsRefusal}
 use Rattle.linear.specs.Span.{All, none, more, Row}
 use Rattle.linear.specs.laws.Every.{all-append}
-use Rattle.receiver.specs.Receiver.{wellFormed, heldRows, holding, takeOf}
+use Rattle.receiver.specs.Receiver.{Setup, offer, setupOf, setupRefusal, wellFormed, heldRows, holding, takeOf}
 use Rattle.receiver.specs.laws.Sound.{sound}
 use Rattle.receiver.specs.laws.Held.{holding-size}
 use Rattle.receiver.specs.declared.Receiver.{Receiver}
@@ -26,50 +25,46 @@ use Rattle.recovery.specs.laws.After.{begun-holds}
 
 -- r holds some rows, under accepted settings
 pub record Holds (r : Receiver) : Type 0 where
-  pub q : ℕ
-  pub n : ℕ
-  pub k : ℕ
-  pub settings : settingsRefusal q n k ≡ 0
+  pub setup : Setup
+  pub settings : setupRefusal setup ≡ 0
   pub rows : List (List ℕ)
-  pub each : All (Row q n) rows
-  pub is : r ≡ holding q n k rows
+  pub each : All (Row (setup .q) (setup .n)) rows
+  pub is : r ≡ holding setup rows
 
 pub reachable-holds : {r : Receiver} → Reachable r → Holds r
 unfolding after offered
-reachable-holds (started q n k s) =
-    record { q = q; n = n; k = k; settings = s; rows = []; each = none; is = begun-holds q n k s }
-reachable-holds (taken r row reached) =
+reachable-holds (started s settings) =
+    record { setup = s; settings = settings; rows = []; each = none; is = begun-holds s settings }
+reachable-holds (taken r o reached) =
     let h = reachable-holds reached in
     record {
-      q = h .q;
-      n = h .n;
-      k = h .k;
+      setup = h .setup;
       settings = h .settings;
-      rows = h .rows ++ fitting (h .q) (h .n) (row ∷ []);
-      each = all-append (h .each) (fitting-rows (h .q) (h .n) (row ∷ []));
+      rows = h .rows ++ fitting (h .setup) (o ∷ []);
+      each = all-append (h .each) (fitting-rows (h .setup) (o ∷ []));
       is =
-          ap (λ x. (takeOf x row) .receiver) (h .is)
-          ∙ course (h .q) (h .n) (h .k) (h .settings) (takeValue (record { row = row }) ∷ []) (h .rows) (h .each) .left;
+          ap (λ x. (takeOf x o) .receiver) (h .is)
+          ∙ course (h .setup) (h .settings) (takeValue o ∷ []) (h .rows) (h .each) .left;
     }
 
 pub reachable-size : {r : Receiver} → Reachable r → length (r .entries) ≡ 256
 reachable-size reached =
     let h = reachable-holds reached in
-    ap (λ r. length (r .entries)) (h .is) ∙ holding-size (h .q) (h .n) (h .k) (h .settings) (h .rows) (h .each)
+    ap (λ r. length (r .entries)) (h .is) ∙ holding-size (h .setup) (h .settings) (h .rows) (h .each)
 
-module _ (q n k : ℕ) (settings : settingsRefusal q n k ≡ 0) where
+module _ (s : Setup) (settings : setupRefusal s ≡ 0) where
   -- the rows taken one after the other
-  grown : (held : List (List ℕ)) → All (Row q n) held → Reachable (holding q n k held) → {rows : List (List ℕ)} → All (Row q n) rows
-      → Reachable (holding q n k (held ++ rows))
-  grown held h reached none = subst (λ x. Reachable (holding q n k x)) (sym (append-nil held)) reached
+  grown : (held : List (List ℕ)) → All (Row (s .q) (s .n)) held → Reachable (holding s held) → {rows : List (List ℕ)} → All (Row (s .q) (s .n)) rows
+      → Reachable (holding s (held ++ rows))
+  grown held h reached none = subst (λ x. Reachable (holding s x)) (sym (append-nil held)) reached
   grown held h reached (more {x = row} {xs = rows} hr hs) =
-      subst (λ x. Reachable (holding q n k x)) (append-assoc held (row ∷ []) rows)
+      subst (λ x. Reachable (holding s x)) (append-assoc held (row ∷ []) rows)
       (grown (held ++ (row ∷ [])) (all-append h (more hr none))
-      (subst Reachable (take-taken q n k settings held h row (take-fits q n k settings held h row hr) .0)
-      (taken (holding q n k held) row reached)) hs)
+      (subst Reachable (take-taken s settings held h (offer row) (take-fits s settings held h (offer row) hr) .0)
+      (taken (holding s held) (offer row) reached)) hs)
 
-  pub holding-reachable : (rows : List (List ℕ)) → All (Row q n) rows → Reachable (holding q n k rows)
-  holding-reachable rows h = grown [] none (subst Reachable (begun-holds q n k settings) (started q n k settings)) h
+  pub holding-reachable : (rows : List (List ℕ)) → All (Row (s .q) (s .n)) rows → Reachable (holding s rows)
+  holding-reachable rows h = grown [] none (subst Reachable (begun-holds s settings) (started s settings)) h
 
 pub reachable-exactly-well-formed : (r : Receiver) → length (r .entries) ≡ 256 → Reachable r ↔ (wellFormed r ≡ true)
 reachable-exactly-well-formed r size = (there, back)
@@ -77,9 +72,9 @@ reachable-exactly-well-formed r size = (there, back)
     there : Reachable r → wellFormed r ≡ true
     there reached =
         let h = reachable-holds reached in
-        ap wellFormed (h .is) ∙ well-formed-holding (h .q) (h .n) (h .k) (h .settings) (h .rows) (h .each)
+        ap wellFormed (h .is) ∙ well-formed-holding (h .setup) (h .settings) (h .rows) (h .each)
 
     back : wellFormed r ≡ true → Reachable r
     back w =
         let h = holding-of-well-formed r size w in
-        subst Reachable (sym (h .0)) (holding-reachable (r .q) (r .n) (r .k) (sound r size w .settings) (heldRows r) (h .1))
+        subst Reachable (sym (h .0)) (holding-reachable (setupOf r) (sound r size w .settings) (heldRows r) (h .1))

@@ -32,7 +32,7 @@ use Rattle.receive.specs.Answer.{spaceAnswer, receivedNumber}
 use Rattle.receive.specs.Receive.{rowsRefusal, receiveOf}
 use Rattle.receive.specs.laws.ReceiveAccepted.{rows-unrefused, receive-unrefused}
 use Rattle.receive.specs.declared.Received.{Received}
-use Rattle.receiver.specs.Receiver.{holding, closeOf}
+use Rattle.receiver.specs.Receiver.{Setup, setupRefusal, holding, closeOf}
 use Rattle.receiver.specs.laws.Held.{settings-laws, holding-used}
 use Rattle.receiver.specs.laws.TakeAccepted.{close-unrefused}
 use Rattle.pandrwyg.specs.Exported.{answerSize, answerBytes, leftBytes, exportedOf, exportedNumber, exportedBytes}
@@ -48,19 +48,6 @@ use Rattle.recovery.specs.laws.Space.{vector-fits}
 module _ (q n k t : ℕ) (settings : settingsRefusal q n k ≡ 0) (known : isNumbering t ≡ true) where
   law : Laws q
   law = settings-laws q n k settings
-
-  pub close-holding : (rows : List (List ℕ)) → All (Row q n) rows
-      → closeOf (holding q n k rows) t ≡ spaceAnswer q n k t (dimension q n rows) (reducedOf q n rows)
-  unfolding holding closeOf
-  close-holding rows h =
-      sym (done _ _ _ (close-unrefused (holding q n k rows) t (well-formed-holding q n k settings rows h) known))
-      ∙ ap (spaceAnswer q n k t (dimension q n rows)) (holding-used q n k settings rows h)
-
-  pub close-after : (cs : List Call)
-      → closeOf (after (begun q n k) cs) t
-      ≡ spaceAnswer q n k t (dimension q n (accepted (begun q n k) cs)) (reducedOf q n (accepted (begun q n k) cs))
-  close-after cs =
-      ap (λ r. closeOf r t) (after-holds q n k settings cs) ∙ close-holding (accepted (begun q n k) cs) (accepted-rows q n k settings cs)
 
   module _ (rows : List (List ℕ)) (h : All (Row q n) rows) (few : length rows ≤ mostRows) where
     below : entriesBelow q (join rows) ≡ true
@@ -105,17 +92,6 @@ module _ (q n k t : ℕ) (settings : settingsRefusal q n k ≡ 0) (known : isNum
     -- the index fits eight bytes
     fits : indexOf q n k t m < 2 ^ 64
     fits = omega (arith, either q n k t settings .index-below m R, settings-accepted q n k settings .counted)
-
-    pub recovered : (cs : List Call) → All (Mixed q n (rowsOf n k m)) (accepted (begun q n k) cs)
-        → Recovery q n k t (indexOf q n k t m) cs
-    recovered cs mixed =
-        let rows = accepted (begun q n k) cs in
-        record {
-          answers =
-              subst (λ a. Answers q n k (indexOf q n k t m) (accepted (begun q n k) cs) (told a)) (sym (close-after cs))
-              (space-answers q n k t settings m R rows (spanned mixed));
-          typed = λ v h. close-after cs ∙ space-typed q n k t settings m R rows (spanned mixed) v h;
-        }
 
     module _ (rows : List (List ℕ)) (few : length rows ≤ mostRows) (mixed : All (Mixed q n (rowsOf n k m)) rows) where
       each : All (InSpan q n (rowsOf n k m)) rows
@@ -180,3 +156,30 @@ module _ (q n k t : ℕ) (settings : settingsRefusal q n k ≡ 0) (known : isNum
             whole-bytes = whole-bytes;
             fewer-bytes = fewer-bytes;
           }
+
+module _ (s : Setup) (t : ℕ) (settings : setupRefusal s ≡ 0) (known : isNumbering t ≡ true) where
+  -- the answer for the span of rows
+  abbrev answerFor : List (List ℕ) → Received
+  answerFor rows = spaceAnswer (s .q) (s .n) (s .k) t (dimension (s .q) (s .n) rows) (reducedOf (s .q) (s .n) rows)
+
+  pub close-holding : (rows : List (List ℕ)) → All (Row (s .q) (s .n)) rows → closeOf (holding s rows) t ≡ answerFor rows
+  unfolding holding closeOf
+  close-holding rows h =
+      sym (done _ _ _ (close-unrefused (holding s rows) t (well-formed-holding s settings rows h) known))
+      ∙ ap (spaceAnswer (s .q) (s .n) (s .k) t (dimension (s .q) (s .n) rows)) (holding-used s settings rows h)
+
+  pub close-after : (cs : List Call) → closeOf (after (begun s) cs) t ≡ answerFor (accepted (begun s) cs)
+  close-after cs = ap (λ r. closeOf r t) (after-holds s settings cs) ∙ close-holding (accepted (begun s) cs) (accepted-rows s settings cs)
+
+  pub recovered : (m : List ℕ) → Reduced (s .q) (s .n) (s .k) m → (cs : List Call)
+      → All (Mixed (s .q) (s .n) (rowsOf (s .n) (s .k) m)) (accepted (begun s) cs)
+      → Recovery s t (indexOf (s .q) (s .n) (s .k) t m) cs
+  recovered m R cs mixed =
+      let rows = accepted (begun s) cs in
+      let within = spanned (s .q) (s .n) (s .k) t settings known m R mixed in
+      record {
+        answers =
+            subst (λ a. Answers (s .q) (s .n) (s .k) (indexOf (s .q) (s .n) (s .k) t m) (accepted (begun s) cs) (told a)) (sym (close-after cs))
+            (space-answers (s .q) (s .n) (s .k) t settings m R rows within);
+        typed = λ v h. close-after cs ∙ space-typed (s .q) (s .n) (s .k) t settings m R rows within v h;
+      }

@@ -6,7 +6,7 @@
 --   drawn-rows-taken     == so taking the drawn rows from the top and closing gives the index
 --   drawn-bytes-received == and so does Receive of the drawn bytes
 -- Assumes nothing.
-use mathlib.Core.Path.{_≡_, refl, ap, ap₂, sym, _∙_, subst}
+use mathlib.Core.Path.{_≡_, refl, ap₂, sym, _∙_, subst}
 use mathlib.Core.Bool.{Bool, true, false}
 use mathlib.Core.List.{List, [], _∷_}
 use mathlib.Core.Logic.{_⊎_, inl, inr, Iff·rfl}
@@ -29,7 +29,7 @@ use Rattle.draw.specs.Draw.{drawBuffer}
 use Rattle.reduce.specs.Reduce.{spaceOf}
 use Rattle.receive.specs.Receive.{receiveOf}
 use Rattle.receive.specs.declared.Received.the-variants.{Done}
-use Rattle.receiver.specs.Receiver.{closeOf}
+use Rattle.receiver.specs.Receiver.{Setup, Offer, setup, offer, closeOf}
 use Rattle.receiver.specs.laws.Held.{settings-laws}
 use Rattle.recovery.specs.Calls.{Call, begun, takeValue, after, accepted, offered, fitting}
 use Rattle.recovery.specs.Demand.{Buffer}
@@ -50,40 +50,49 @@ each-among [] = none
 each-among (x ∷ xs) = more first (all-map (λ y a. later a) (each-among xs))
 
 -- a row that is offered and fits stands among the fitting ones
-among-fitting : {q n : ℕ} {row : List ℕ} → Row q n row → {rows : List (List ℕ)} → Among row rows → Among row (fitting q n rows)
+among-fitting : (s : Setup) {o : Offer} → Row (s .q) (s .n) (o .row) → {os : List Offer} → Among o os → Among (o .row) (fitting s os)
 unfolding fitting
-among-fitting {q} {n} {row} h (first {xs = rows}) =
-    subst (λ b. Among row (pick b (row ∷ fitting q n rows) (fitting q n rows))) (sym (row-fits q n row h)) first
-among-fitting {q} {n} {row} h (later {y = other} {xs = rows} a) = cases (fits q n other) (among-fitting h a)
+among-fitting s {o} h (first {xs = os}) =
+    subst (λ b. Among (o .row) (pick b (o .row ∷ fitting s os) (fitting s os))) (sym (row-fits s o h)) first
+among-fitting s {o} h (later {y = other} {xs = os} a) = cases (fits s other) (among-fitting s h a)
   where
-    cases : (b : Bool) → Among row (fitting q n rows) → Among row (pick b (other ∷ fitting q n rows) (fitting q n rows))
+    cases : (b : Bool) → Among (o .row) (fitting s os) → Among (o .row) (pick b (other .row ∷ fitting s os) (fitting s os))
     cases true a = later a
     cases false a = a
 
 -- what is offered has the property or is no row: then the fitting rows have it
-fitting-all : {q n : ℕ} {P : List ℕ → Type 0} {rows : List (List ℕ)} → All (λ row. P row ⊎ (Row q n row → ⊥)) rows
-    → All P (fitting q n rows)
+fitting-all : (s : Setup) {P : List ℕ → Type 0} {os : List Offer} → All (λ o. P (o .row) ⊎ (Row (s .q) (s .n) (o .row) → ⊥)) os
+    → All P (fitting s os)
 unfolding fitting
-fitting-all none = none
-fitting-all {q} {n} {P} (more {x = row} {xs = rows} h hs) = cases (fits q n row) refl h (fitting-all hs)
+fitting-all s none = none
+fitting-all s {P} (more {x = o} {xs = os} h hs) = cases (fits s o) refl h (fitting-all s hs)
   where
-    cases : (b : Bool) → fits q n row ≡ b → P row ⊎ (Row q n row → ⊥) → All P (fitting q n rows)
-        → All P (pick b (row ∷ fitting q n rows) (fitting q n rows))
+    cases : (b : Bool) → fits s o ≡ b → P (o .row) ⊎ (Row (s .q) (s .n) (o .row) → ⊥) → All P (fitting s os)
+        → All P (pick b (o .row ∷ fitting s os) (fitting s os))
     cases true e (inl p) ps = more p ps
-    cases true e (inr outside) ps = absurd (outside (fits-row q n row e))
+    cases true e (inr outside) ps = absurd (outside (fits-row s o e))
     cases false e h ps = ps
 
 abbrev pub takeAll : List (List ℕ) → List Call
 takeAll [] = []
-takeAll (row ∷ rows) = takeValue (record { row = row }) ∷ takeAll rows
+takeAll (row ∷ rows) = takeValue (offer row) ∷ takeAll rows
 
-offered-all : (rows : List (List ℕ)) → offered (takeAll rows) ≡ rows
+-- what these calls offer: the rows
+all-offered : {P : List ℕ → Type 0} {rows : List (List ℕ)} → All P rows → All (λ o. P (o .row)) (offered (takeAll rows))
 unfolding offered
-offered-all [] = refl
-offered-all (row ∷ rows) = ap (λ (x : List (List ℕ)). row ∷ x) (offered-all rows)
+all-offered none = none
+all-offered (more p ps) = more p (all-offered ps)
+
+among-offered : {row : List ℕ} {rows : List (List ℕ)} → Among row rows → Among (offer row) (offered (takeAll rows))
+unfolding offered
+among-offered first = first
+among-offered (later a) = later (among-offered a)
 
 module _ (q n k t : ℕ) (settings : settingsRefusal q n k ≡ 0) (known : isNumbering t ≡ true) (i : ℕ) (h : i < gaussian q n k)
     (b : List ℕ) (sized : Buffer n k b) where
+  abbrev s : Setup
+  s = setup q n k
+
   law : Laws q
   law = settings-laws q n k settings
 
@@ -92,49 +101,47 @@ module _ (q n k t : ℕ) (settings : settingsRefusal q n k ≡ 0) (known : isNum
   drawnRows = rowsOf n k (drawBuffer q n k t i b)
 
   reduced : Reduced q n k (drawBuffer q n k t i b)
-  reduced = demand-3 q n k t settings known .listing .reduced i h b sized
+  reduced = demand-3 s t settings known .listing .reduced i h b sized
 
   valid : All (Row q n) drawnRows
   valid = reduced-rows q n reduced
 
   pub drawn-rows-recovered : (cs : List Call)
-      → All (λ row. Among row (rowsOf n k (drawBuffer q n k t i b)) ⊎ (Row q n row → ⊥)) (offered cs)
-      → All (λ row. Among row (offered cs)) (rowsOf n k (drawBuffer q n k t i b))
-      → closeOf (after (begun q n k) cs) t ≡ Done (indexIn t i) (spaceOf n k (drawBuffer q n k t i b))
+      → All (λ o. Among (o .row) (rowsOf n k (drawBuffer q n k t i b)) ⊎ (Row q n (o .row) → ⊥)) (offered cs)
+      → All (λ row. Among (offer row) (offered cs)) (rowsOf n k (drawBuffer q n k t i b))
+      → closeOf (after (begun s) cs) t ≡ Done (indexIn t i) (spaceOf n k (drawBuffer q n k t i b))
   unfolding HasVector
   drawn-rows-recovered cs only every =
-      demand-3 q n k t settings known .recovery i h b sized cs
+      demand-3 s t settings known .recovery i h b sized cs
       (all-map (λ v s. mixed-in-span q law n drawnRows valid v .1 s) inside) .typed _ (drawBuffer q n k t i b, reduced, same, refl)
     where
-      inside : All (InSpan q n drawnRows) (accepted (begun q n k) cs)
+      inside : All (InSpan q n drawnRows) (accepted (begun s) cs)
       inside =
           all-map (λ v a. among-all (span-each q law n drawnRows valid) a)
-          (subst (All (λ row. Among row drawnRows)) (sym (accepted-fits q n k settings cs)) (fitting-all only))
+          (subst (All (λ row. Among row drawnRows)) (sym (accepted-fits s settings cs)) (fitting-all s only))
 
-      outside : All (InSpan q n (accepted (begun q n k) cs)) drawnRows
+      outside : All (InSpan q n (accepted (begun s) cs)) drawnRows
       outside =
           all-both
           (λ v r a.
-          among-all (span-each q law n (accepted (begun q n k) cs) (accepted-rows q n k settings cs))
-          (subst (Among v) (sym (accepted-fits q n k settings cs)) (among-fitting r a))) valid every
+          among-all (span-each q law n (accepted (begun s) cs) (accepted-rows s settings cs))
+          (subst (Among v) (sym (accepted-fits s settings cs)) (among-fitting s r a))) valid every
 
-      same : SameSpan q n drawnRows (accepted (begun q n k) cs)
-      same = span-same q law n drawnRows (accepted (begun q n k) cs) valid (accepted-rows q n k settings cs) outside inside
+      same : SameSpan q n drawnRows (accepted (begun s) cs)
+      same = span-same q law n drawnRows (accepted (begun s) cs) valid (accepted-rows s settings cs) outside inside
 
-  pub drawn-rows-taken : closeOf (after (begun q n k) (takeAll (rowsOf n k (drawBuffer q n k t i b)))) t
+  pub drawn-rows-taken : closeOf (after (begun s) (takeAll (rowsOf n k (drawBuffer q n k t i b)))) t
       ≡ Done (indexIn t i) (spaceOf n k (drawBuffer q n k t i b))
   drawn-rows-taken =
       drawn-rows-recovered (takeAll drawnRows)
-      (subst (All (λ row. Among row drawnRows ⊎ (Row q n row → ⊥))) (sym (offered-all drawnRows))
-      (all-map (λ v a. inl a) (each-among drawnRows)))
-      (subst (λ rows. All (λ row. Among row rows) drawnRows) (sym (offered-all drawnRows)) (each-among drawnRows))
+      (all-offered (all-map (λ v a. inl a) (each-among drawnRows))) (all-map (λ v a. among-offered a) (each-among drawnRows))
 
   pub drawn-bytes-received : receiveOf q n k t k (drawBuffer q n k t i b) ≡ Done (indexIn t i) (spaceOf n k (drawBuffer q n k t i b))
   unfolding HasVector SameSpan
   drawn-bytes-received =
       ap₂ (receiveOf q n k t) (sym (rows-length n k (drawBuffer q n k t i b)))
       (sym (join-rows n k (drawBuffer q n k t i b) (reduced .size)))
-      ∙ demand-3 q n k t settings known .reception i h b sized drawnRows few
+      ∙ demand-3 s t settings known .reception i h b sized drawnRows few
       (all-map (λ v s. mixed-in-span q law n drawnRows valid v .1 s) (span-each q law n drawnRows valid)) .typed _
       (drawBuffer q n k t i b, reduced, λ v. Iff·rfl, refl)
     where
