@@ -17,7 +17,8 @@ use Rattle.refusal.specs.laws.First.{kept, done}
 use Rattle.matrix.specs.laws.Tests.{zeros-below}
 use Rattle.linear.specs.Span.{All, none, more}
 use Rattle.linear.specs.laws.Every.{all-append, all-head, all-tail}
-use Rattle.receiver.specs.Receiver.{heldRows, isZero, takeRefusal, takenIn, takeOf, takeNumber, takeRaised, takeIdle, TakeTells}
+use Rattle.receiver.specs.Receiver.{Setup, Offer, setupOf, heldRows, isZero, takeRefusal, takenIn, takeOf}
+use Rattle.receiver.specs.Receiver.{takeNumber, takeRaised, takeIdle, TakeTells}
 use Rattle.receiver.specs.laws.Sound.{sound}
 use Rattle.receiver.specs.laws.Held.{held-kept, holding-size}
 use Rattle.receiver.specs.laws.TakeAccepted.{take-accepted, accepted-row, take-told}
@@ -42,30 +43,30 @@ refused-unraised Idle e = refl
 refused-unraised (Refused r) e = refl
 
 module _ (r : Receiver) (size : length (r .entries) ≡ 256) where
-  pub zero-untouched : (n : ℕ) → (takeOf r (zeroRow n)) .receiver ≡ r
-  zero-untouched n = told .untouched (cases (ℕ-discrete (takeRefusal r (zeroRow n)) 0))
+  pub zero-untouched : (n : ℕ) → (takeOf r (zeros n)) .receiver ≡ r
+  zero-untouched n = told .untouched (cases (ℕ-discrete (takeRefusal r (zeros n)) 0))
     where
-      told : TakeTells r (zeroRow n) (takeOf r (zeroRow n))
-      told = take-told r (zeroRow n) size (takeOf r (zeroRow n)) refl
+      told : TakeTells r (zeros n) (takeOf r (zeros n))
+      told = take-told r (zeros n) size (takeOf r (zeros n)) refl
 
-      cases : Dec (takeRefusal r (zeroRow n) ≡ 0) → takeRaised ((takeOf r (zeroRow n)) .answer) ≡ false
+      cases : Dec (takeRefusal r (zeros n) ≡ 0) → takeRaised ((takeOf r (zeros n)) .answer) ≡ false
       cases (yes z) =
-          idle-unraised ((takeOf r (zeroRow n)) .answer)
-          (told .idle ∙ ap (λ b. b && isZero (zeroRow n)) (eq-eqb (takeRefusal r (zeroRow n)) 0 z) ∙ zeros-below n)
-      cases (no z) = refused-unraised ((takeOf r (zeroRow n)) .answer) (λ e. z (sym (told .number) ∙ e))
+          idle-unraised ((takeOf r (zeros n)) .answer)
+          (told .idle ∙ ap (λ b. b && isZero (zeroRow n)) (eq-eqb (takeRefusal r (zeros n)) 0 z) ∙ zeros-below n)
+      cases (no z) = refused-unraised ((takeOf r (zeros n)) .answer) (λ e. z (sym (told .number) ∙ e))
 
-  pub take-size : (row : List ℕ) → length (((takeOf r row) .receiver) .entries) ≡ 256
+  pub take-size : (o : Offer) → length (((takeOf r o) .receiver) .entries) ≡ 256
   unfolding takeOf takenIn
-  take-size row = cases (ℕ-discrete (takeRefusal r row) 0)
+  take-size o = cases (ℕ-discrete (takeRefusal r o) 0)
     where
-      cases : Dec (takeRefusal r row ≡ 0) → length (((takeOf r row) .receiver) .entries) ≡ 256
-      cases (no z) = ap (λ (t : Taken). length ((t .receiver) .entries)) (sym (kept (takeRefusal r row) _ _ z)) ∙ size
+      cases : Dec (takeRefusal r o ≡ 0) → length (((takeOf r o) .receiver) .entries) ≡ 256
+      cases (no z) = ap (λ (t : Taken). length ((t .receiver) .entries)) (sym (kept (takeRefusal r o) _ _ z)) ∙ size
       cases (yes z) =
-          let a = take-accepted r row z in
+          let a = take-accepted r o z in
           let s = sound r size (a .formed) in
-          ap (λ (t : Taken). length ((t .receiver) .entries)) (sym (done (takeRefusal r row) _ _ z))
-          ∙ holding-size (r .q) (r .n) (r .k) (s .settings) (heldRows r ++ (row ∷ []))
-          (all-append (held-kept r size s .rows) (more (accepted-row r row a) none))
+          ap (λ (t : Taken). length ((t .receiver) .entries)) (sym (done (takeRefusal r o) _ _ z))
+          ∙ holding-size (setupOf r) (s .settings) (heldRows r ++ (o .row ∷ []))
+          (all-append (held-kept r size s .rows) (more (accepted-row r o a) none))
 
 same-calls : (n : ℕ) (cs : List Call) → WithIdle n cs cs
 same-calls n [] = nothing
@@ -89,12 +90,12 @@ one-before : (P : List ℕ → Type 0) (b : Bool) (row : List ℕ) (ys : List (L
 one-before P true row ys p ps = more p ps
 one-before P false row ys p ps = ps
 
-module _ (q n : ℕ) (P : List ℕ → Type 0) (zero : P (zeroRow n)) where
-  pub put-in-fitting : {cs ds : List Call} → WithIdle n cs ds → All P (fitting q n (offered cs)) → All P (fitting q n (offered ds))
+module _ (s : Setup) (P : List ℕ → Type 0) (zero : P (zeroRow (s .n))) where
+  pub put-in-fitting : {cs ds : List Call} → WithIdle (s .n) cs ds → All P (fitting s (offered cs)) → All P (fitting s (offered ds))
   unfolding fitting offered
   put-in-fitting nothing ps = ps
-  put-in-fitting (call (takeValue o) w) ps = before-all P (fits q n (o .row)) (o .row) _ _ (λ x. put-in-fitting w x) ps
-  put-in-fitting (call (takeLent o) w) ps = before-all P (fits q n (o .row)) (o .row) _ _ (λ x. put-in-fitting w x) ps
+  put-in-fitting (call (takeValue o) w) ps = before-all P (fits s o) (o .row) _ _ (λ x. put-in-fitting w x) ps
+  put-in-fitting (call (takeLent o) w) ps = before-all P (fits s o) (o .row) _ _ (λ x. put-in-fitting w x) ps
   put-in-fitting (call (close t) w) ps = put-in-fitting w ps
-  put-in-fitting (idleValue w) ps = one-before P (fits q n (zeroRow n)) (zeroRow n) _ zero (put-in-fitting w ps)
-  put-in-fitting (idleLent w) ps = one-before P (fits q n (zeroRow n)) (zeroRow n) _ zero (put-in-fitting w ps)
+  put-in-fitting (idleValue w) ps = one-before P (fits s (zeros (s .n))) (zeroRow (s .n)) _ zero (put-in-fitting w ps)
+  put-in-fitting (idleLent w) ps = one-before P (fits s (zeros (s .n))) (zeroRow (s .n)) _ zero (put-in-fitting w ps)
