@@ -27,12 +27,17 @@ use Rattle.number.specs.Number.{numberOf}
 use Rattle.number.specs.declared.Numbered.the-variants.{Done}
 use Rattle.number.specs.laws.NumberAccepted.{reduced-numbered}
 use Rattle.reduce.specs.Reduce.{mostRows}
+use Rattle.receiver.specs.Receiver.{Setup, setup}
 use Rattle.recovery.specs.Calls.{Call, begun, accepted}
 use Rattle.recovery.specs.Demand.{Buffer, Listing, Recovery, Reception, Demand}
 use Rattle.recovery.specs.Theorem.{demand-3}
 
 module _ (q n k t : ℕ) (indexes matrices answers : List ℕ)
     (unrefused : batchRefusal q n k t (length indexes) (length matrices) (length answers) ≡ 0) where
+  -- what a receiver with these settings is started with
+  abbrev s : Setup
+  s = setup q n k
+
   -- the place's index, its part before and after the call, and its answer
   abbrev indexAt : ℕ → ℕ
   indexAt place = getD indexes place 0
@@ -49,8 +54,8 @@ module _ (q n k t : ℕ) (indexes matrices answers : List ℕ)
   whole : BatchAccepted q n k t (length indexes) (length matrices) (length answers)
   whole = batch-accepted q n k t (length indexes) (length matrices) (length answers) unrefused
 
-  demand : Demand q n k t
-  demand = let c = chosen q n k t (whole .choice) in demand-3 q n k t (not-refused q n k (c .settings)) (c .known)
+  demand : Demand s t
+  demand = let c = chosen q n k t (whole .choice) in demand-3 s t (not-refused q n k (c .settings)) (c .known)
 
   drawing : (place : ℕ) → place < length indexes → Place q n k t (indexAt place) (lent place) (left place) (answer place)
   drawing place h =
@@ -71,7 +76,7 @@ module _ (q n k t : ℕ) (indexes matrices answers : List ℕ)
   pub batch-recovers : (place : ℕ) → place < length indexes → answer place ≡ 0
       → (indexAt place < gaussian q n k)
       × (numberOf q n k t (left place) ≡ Done (indexIn t (indexAt place)))
-      × ((cs : List Call) → All (Mixed q n (rowsOf n k (left place))) (accepted (begun q n k) cs) → Recovery q n k t (indexAt place) cs)
+      × ((cs : List Call) → All (Mixed q n (rowsOf n k (left place))) (accepted (begun s) cs) → Recovery s t (indexAt place) cs)
       × ((rows : List (List ℕ)) → length rows ≤ mostRows → All (Mixed q n (rowsOf n k (left place))) rows
       → Reception q n k t (indexAt place) rows)
   batch-recovers place h z =
@@ -81,7 +86,7 @@ module _ (q n k t : ℕ) (indexes matrices answers : List ℕ)
         l,
         reduced-numbered q n k t (left place) (whole .choice) (d .1) ∙ ap (λ x. Done (indexIn t x)) (d .2),
         λ cs m. demand .recovery (indexAt place) l (lent place) (sized place h) cs
-            (subst (λ x. All (Mixed q n (rowsOf n k x)) (accepted (begun q n k) cs)) e m),
+            (subst (λ x. All (Mixed q n (rowsOf n k x)) (accepted (begun s) cs)) e m),
         λ rows few m. demand .reception (indexAt place) l (lent place) (sized place h) rows few
             (subst (λ x. All (Mixed q n (rowsOf n k x)) rows) e m),
       )
