@@ -20,7 +20,7 @@ use Rattle.numbering.specs.Numbering.{isNumbering, indexIn}
 use Rattle.draw.specs.Draw.{drawBuffer}
 use Rattle.spaces.specs.Spaces.{JointSpace, CommonSpace, jointOf, jointDimension}
 use Rattle.receive.specs.declared.Received.the-variants.{Done}
-use Rattle.receiver.specs.Receiver.{empty, used, heldRows, holding, closeOf}
+use Rattle.receiver.specs.Receiver.{Setup, setup, setupOf, setupRefusal, noSetup, empty, used, heldRows, holding, closeOf}
 use Rattle.receiver.specs.laws.Sound.{sound}
 use Rattle.receiver.specs.laws.Held.{settings-laws, holding-rows, holding-size, holding-used}
 use Rattle.receiver.specs.declared.Receiver.{Receiver}
@@ -47,7 +47,7 @@ module _ (a b : Receiver) (whole-a : length (a .entries) ≡ 256) (whole-b : len
   ok : PoolAccepted a b (length joint) (length common)
   ok = pool-accepted a b (length joint) (length common) unrefused
 
-  settings : settingsRefusal (a .q) (a .n) (a .k) ≡ 0
+  settings : setupRefusal (setupOf a) ≡ 0
   settings = sound a whole-a (ok .first) .settings
 
   first : All (Row (a .q) (a .n)) (heldRows a)
@@ -57,7 +57,7 @@ module _ (a b : Receiver) (whole-a : length (a .entries) ≡ 256) (whole-b : len
   second = second-held a b whole-a whole-b (ok .first) (ok .second) (ok .same)
 
   -- the one joint space is what the receiver handed back uses
-  receiver-holds : p .receiver ≡ holding (a .q) (a .n) (a .k) (heldRows a ++ heldRows b)
+  receiver-holds : p .receiver ≡ holding (setupOf a) (heldRows a ++ heldRows b)
   unfolding poolOf pooled
   receiver-holds = ap (λ (x : Pooled). x .receiver) (sym (done _ _ _ unrefused))
 
@@ -73,7 +73,7 @@ module _ (a b : Receiver) (whole-a : length (a .entries) ≡ 256) (whole-b : len
       let rows = heldRows a ++ heldRows b in
       let e = joint-exactly (a .q) (settings-laws (a .q) (a .n) (a .k) settings) (a .n) (heldRows a) (heldRows b) first second d u .0 J in (
         ap (λ r. r .dimension) receiver-holds ∙ sym (e .0),
-        ap used receiver-holds ∙ holding-used (a .q) (a .n) (a .k) settings rows (all-append first second) ∙ sym (e .1),
+        ap used receiver-holds ∙ holding-used (setupOf a) settings rows (all-append first second) ∙ sym (e .1),
       )
 
   spaces : ((p .receiver) .dimension ≡ poolJoint (p .answer))
@@ -103,66 +103,75 @@ Spaces q n us vs joint common x y a b =
     × (jointBuffer a b joint (length common)
     ≡ used ((poolOf a b x y) .receiver) ++ replicate (n * n - poolJoint ((poolOf a b x y) .answer) * n) 0)
 
-module _ (q n k : ℕ) (settings : settingsRefusal q n k ≡ 0) where
+module _ (s : Setup) (settings : setupRefusal s ≡ 0) where
+  abbrev q : ℕ
+  q = s .q
+
+  abbrev n : ℕ
+  n = s .n
+
+  abbrev k : ℕ
+  k = s .k
+
   abbrev law : Laws q
   law = settings-laws q n k settings
 
-  held-span : (rows : List (List ℕ)) → All (Row q n) rows → SameSpan q n (heldRows (holding q n k rows)) rows
+  held-span : (rows : List (List ℕ)) → All (Row q n) rows → SameSpan q n (heldRows (holding s rows)) rows
   held-span rows h =
-      subst (λ x. SameSpan q n x rows) (sym (holding-rows q n k settings rows h)) (reducedRows-span q law n rows h)
+      subst (λ x. SameSpan q n x rows) (sym (holding-rows s settings rows h)) (reducedRows-span q law n rows h)
 
   holding-spaces : (us vs : List (List ℕ)) → All (Row q n) us → All (Row q n) vs → (joint common : List ℕ)
       → length joint ≡ n * n → length common ≡ n * n
-      → Spaces q n us vs joint common (length joint) (length common) (holding q n k us) (holding q n k vs)
+      → Spaces q n us vs joint common (length joint) (length common) (holding s us) (holding s vs)
   unfolding holding
   holding-spaces us vs hu hv joint common lj lc =
-      let a = holding q n k us in
-      let b = holding q n k vs in
-      let z : poolRefusal a b (length joint) (length common) ≡ 0 = rw (lj, lc) (pool-none q n k settings us vs hu hv) in
-      let s = spaces a b (holding-size q n k settings us hu) (holding-size q n k settings vs hv) joint common z in
+      let a = holding s us in
+      let b = holding s vs in
+      let z : poolRefusal a b (length joint) (length common) ≡ 0 = rw (lj, lc) (pool-none s settings us vs hu hv) in
+      let x = spaces a b (holding-size s settings us hu) (holding-size s settings vs hv) joint common z in
       let su = held-span us hu in
       let sv = held-span vs hv in (
-        joint-carried q n (heldRows a) (heldRows b) us vs su sv _ _ (s .1),
-        (s .3 .0, s .3 .1, common-carried q n (heldRows a) (heldRows b) us vs su sv _ _ (s .3 .2)),
-        s .2,
+        joint-carried q n (heldRows a) (heldRows b) us vs su sv _ _ (x .1),
+        (x .3 .0, x .3 .1, common-carried q n (heldRows a) (heldRows b) us vs su sv _ _ (x .3 .2)),
+        x .2,
       )
 
   module _ (cs ds : List Call) where
     abbrev us : List (List ℕ)
-    us = accepted (begun q n k) cs
+    us = accepted (begun s) cs
 
     abbrev vs : List (List ℕ)
-    vs = accepted (begun q n k) ds
+    vs = accepted (begun s) ds
 
     lists-spaces : (joint common : List ℕ) → length joint ≡ n * n → length common ≡ n * n
-        → Spaces q n us vs joint common (n * n) (n * n) (after (begun q n k) cs) (after (begun q n k) ds)
+        → Spaces q n us vs joint common (n * n) (n * n) (after (begun s) cs) (after (begun s) ds)
     lists-spaces joint common lj lc =
-        subst₂ (λ a b. Spaces q n us vs joint common (n * n) (n * n) a b) (sym (after-holds q n k settings cs))
-        (sym (after-holds q n k settings ds))
-        (subst₂ (λ x y. Spaces q n us vs joint common x y (holding q n k us) (holding q n k vs)) lj lc
-        (holding-spaces us vs (accepted-rows q n k settings cs) (accepted-rows q n k settings ds) joint common lj lc))
+        subst₂ (λ a b. Spaces q n us vs joint common (n * n) (n * n) a b) (sym (after-holds s settings cs))
+        (sym (after-holds s settings ds))
+        (subst₂ (λ x y. Spaces q n us vs joint common x y (holding s us) (holding s vs)) lj lc
+        (holding-spaces us vs (accepted-rows s settings cs) (accepted-rows s settings ds) joint common lj lc))
 
     both-rows : All (Row q n) (us ++ vs)
-    both-rows = all-append (accepted-rows q n k settings cs) (accepted-rows q n k settings ds)
+    both-rows = all-append (accepted-rows s settings cs) (accepted-rows s settings ds)
 
     -- the joint dimension told is the dimension of the rows of both lists
-    both-dimension : dimension q n (us ++ vs) ≡ poolJoint ((pooledAfter q n k cs ds) .answer)
+    both-dimension : dimension q n (us ++ vs) ≡ poolJoint ((pooledAfter s cs ds) .answer)
     unfolding jointDimension
     both-dimension =
         let sized = length-replicate {A = ℕ} (n * n) 0 in
         let J = lists-spaces (replicate (n * n) 0) (replicate (n * n) 0) sized sized .0 in
-        sym (joint-exactly q law n us vs (accepted-rows q n k settings cs) (accepted-rows q n k settings ds) _ _ .0 J .0)
+        sym (joint-exactly q law n us vs (accepted-rows s settings cs) (accepted-rows s settings ds) _ _ .0 J .0)
 
-    has-joint : HasDimension q n (us ++ vs) (poolJoint ((pooledAfter q n k cs ds) .answer))
+    has-joint : HasDimension q n (us ++ vs) (poolJoint ((pooledAfter s cs ds) .answer))
     has-joint = dimension-has q law n (us ++ vs) both-rows _ .1 both-dimension
 
-    joint-whole : HasDimension q n (us ++ vs) k ↔ (poolJoint ((pooledAfter q n k cs ds) .answer) ≡ k)
+    joint-whole : HasDimension q n (us ++ vs) k ↔ (poolJoint ((pooledAfter s cs ds) .answer) ≡ k)
     joint-whole =
         let has = dimension-has q law n (us ++ vs) both-rows k in
         (λ x. sym both-dimension ∙ has .0 x, λ e. has .1 (both-dimension ∙ e))
 
     some-vector : ((d v : ℕ) × HasVector q n (us ++ vs) d v)
-        → (v : ℕ) × HasVector q n (us ++ vs) (poolJoint ((pooledAfter q n k cs ds) .answer)) v
+        → (v : ℕ) × HasVector q n (us ++ vs) (poolJoint ((pooledAfter s cs ds) .answer)) v
     some-vector (d, v, has) =
         (v, subst (λ x. HasVector q n (us ++ vs) x v) (sym (vector-has q law n (us ++ vs) both-rows d v .0 has .0) ∙ both-dimension) has)
 
@@ -190,7 +199,7 @@ pub order-1-flat :
     → (length joint ≡ a .n * a .n) × (length common ≡ a .n * a .n) → poolNumber (p .answer) ≡ 0)
     -- A refusal gives a receiver of all zeros and dimensions 0. (Both buffers are as they were.)
     × ((poolNumber (p .answer) ≡ 0 → ⊥)
-    → (p .receiver ≡ empty 0 0 0) × (poolJoint (p .answer) ≡ 0) × (poolCommon (p .answer) ≡ 0) × (left ≡ joint) × (shared ≡ common))
+    → (p .receiver ≡ empty noSetup) × (poolJoint (p .answer) ≡ 0) × (poolCommon (p .answer) ≡ 0) × (left ≡ joint) × (shared ≡ common))
     × (poolNumber (p .answer) ≡ 0
     -- It .. writes two reduced matrices into lent n×n buffers: that of the smallest space containing both,
     -- Pooling also hands back a receiver with the same settings that holds the smallest space.
@@ -208,19 +217,20 @@ pub order-1-flat :
     -- (For accepted settings, and two lists of calls, each on a receiver of its own from a fresh Start: pooling them is done, and the joint
     -- and the common space are those of the rows that the two accepted.)
     × ((q n k : ℕ) → settingsRefusal q n k ≡ 0 → (cs ds : List Call) (joint common : List ℕ) → length joint ≡ n * n → length common ≡ n * n
-    → let us = accepted (begun q n k) cs in
-    let vs = accepted (begun q n k) ds in
-    let p = pooledAfter q n k cs ds in
+    → let s = setup q n k in
+    let us = accepted (begun s) cs in
+    let vs = accepted (begun s) ds in
+    let p = pooledAfter s cs ds in
     (poolNumber (p .answer) ≡ 0)
     × JointSpace q n us vs (poolJoint (p .answer)) (used (p .receiver))
     × ((m : List ℕ)
-    × (commonBuffer (after (begun q n k) cs) (after (begun q n k) ds) (length joint) common
+    × (commonBuffer (after (begun s) cs) (after (begun s) ds) (length joint) common
     ≡ m ++ replicate (n * n - poolCommon (p .answer) * n) 0)
     × CommonSpace q n us vs (poolCommon (p .answer)) m)
-    × (jointBuffer (after (begun q n k) cs) (after (begun q n k) ds) joint (length common)
+    × (jointBuffer (after (begun s) cs) (after (begun s) ds) joint (length common)
     ≡ used (p .receiver) ++ replicate (n * n - poolJoint (p .answer) * n) 0)
     -- (It is the receiver that took both lists.)
-    × (p .receiver ≡ after (begun q n k) (cs ++ ds))
+    × (p .receiver ≡ after (begun s) (cs ++ ds))
     -- Where both receivers since their start accepted only mixtures of the rows of one matrix drawn with their settings,
     × ((t : ℕ) → isNumbering t ≡ true → (i : ℕ) → i < gaussian q n k → (b : List ℕ) → length b ≡ k * n
     → All (Mixed q n (rowsOf n k (drawBuffer q n k t i b))) us
@@ -249,23 +259,24 @@ order-1-flat = (
             (r .0, r .1, r .2, s .0, s .1, s .2, s .3, s .4, pool-reachable a b whole-a whole-b joint common x),
       ),
   λ q n k settings cs ds joint common lj lc.
-      let o = order-1 q n k 1 settings first-known cs ds in
-      let s = lists-spaces q n k settings cs ds joint common lj lc in (
+      let s = setup q n k in
+      let o = order-1 s 1 settings first-known cs ds in
+      let x = lists-spaces s settings cs ds joint common lj lc in (
         o .0,
-        s .0,
-        s .1,
-        s .2,
+        x .0,
+        x .1,
+        x .2,
         o .1,
         λ t known i h b l mu mv.
-            let R = order-1 q n k t settings known cs ds .2 i h b l mu mv in
-            let joint-is = joint-whole q n k settings cs ds in
-            let has = has-joint q n k settings cs ds in (
+            let R = order-1 s t settings known cs ds .2 i h b l mu mv in
+            let joint-is = joint-whole s settings cs ds in
+            let has = has-joint s settings cs ds in (
               (λ x. joint-is .0 (R .answers .whole .0 x), λ e. R .answers .whole .1 (joint-is .1 e)),
               R .typed,
               R .answers .never-more _ has,
               R .answers .fewer _ has,
               R .answers .space _,
-              some-vector q n k settings cs ds (R .answers .some),
+              some-vector s settings cs ds (R .answers .some),
             ),
       ),
 )

@@ -23,7 +23,7 @@ use Rattle.spaces.specs.Spaces.{JointSpace, CommonSpace, jointOf, jointDimensio
 use Rattle.spaces.specs.laws.Joint.{joint-space, joint-unique}
 use Rattle.spaces.specs.laws.Common.{common-space, common-unique}
 use Rattle.spaces.specs.laws.Dimensions.{dimensions-sum}
-use Rattle.receiver.specs.Receiver.{heldRows}
+use Rattle.receiver.specs.Receiver.{setupOf, heldRows}
 use Rattle.receiver.specs.laws.Sound.{Sound, sound}
 use Rattle.receiver.specs.laws.Held.{settings-laws, held-kept, held-length}
 use Rattle.receiver.specs.declared.Receiver.{Receiver}
@@ -122,4 +122,4 @@ module _ (a b : Receiver) (whole-a : length (a .entries) ≡ 256) (whole-b : len
   unfolding poolOf pooled
   pool-reachable =
       subst Reachable (ap (λ (p : Pooled). p .receiver) (done _ _ _ unrefused))
-      (holding-reachable (a .q) (a .n) (a .k) (sound a whole-a (ok .first) .settings) (heldRows a ++ heldRows b) (all-append first second))
+      (holding-reachable (setupOf a) (sound a whole-a (ok .first) .settings) (heldRows a ++ heldRows b) (all-append first second))

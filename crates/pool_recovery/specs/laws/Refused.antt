@@ -16,7 +16,7 @@ use lib.Dec.{eqb}
 use lib.ListN.{length}
 use Rattle.refusal.specs.Refusal.{lengthRefusal, refuseUnless, first}
 use Rattle.refusal.specs.laws.First.{test-refused, test-passed, kept}
-use Rattle.receiver.specs.Receiver.{empty, wellFormed}
+use Rattle.receiver.specs.Receiver.{noSetup, empty, wellFormed}
 use Rattle.receiver.specs.declared.Receiver.{Receiver}
 use Rattle.recovery.specs.Calls.{Reachable}
 use Rattle.recovery.specs.laws.Reachable.{reachable-exactly-well-formed}
@@ -79,7 +79,7 @@ pub number-is : (a b : Receiver) (joint common : ℕ) → poolNumber ((poolOf a 
 number-is a b joint common = pool-told a b joint common (poolOf a b joint common) refl .0
 
 pub refused-leaves : (a b : Receiver) (joint common : List ℕ) → (poolRefusal a b (length joint) (length common) ≡ 0 → ⊥)
-    → ((poolOf a b (length joint) (length common)) .receiver ≡ empty 0 0 0)
+    → ((poolOf a b (length joint) (length common)) .receiver ≡ empty noSetup)
     × (poolJoint ((poolOf a b (length joint) (length common)) .answer) ≡ 0)
     × (poolCommon ((poolOf a b (length joint) (length common)) .answer) ≡ 0)
     × (jointBuffer a b joint (length common) ≡ joint)
