@@ -17,8 +17,8 @@ ghost use Rattle.reduce.specs.Reduce.{reduceRefusal, reduceOf, reduceBuffer};
 ghost use Rattle.reduce.specs.Reduce.{reductionNumber, reductionDimension, reductionVector};
 ghost use Rattle.receive.specs.Answer.{Told, receivedNumber};
 ghost use Rattle.receive.specs.Receive.{receiveRefusal, receiveOf};
-ghost use Rattle.receiver.specs.Receiver.{startOf, startNumber, used, heldRows, takeOf, TakeTells, closeRefusal, closeOf};
-ghost use Rattle.receiver.specs.Receiver.{lentReceiver, lentAnswer, takenAs};
+ghost use Rattle.receiver.specs.Receiver.{setup, setupRefusal, offer, startOf, startNumber, used, heldRows, takeOf, TakeTells};
+ghost use Rattle.receiver.specs.Receiver.{lentReceiver, lentAnswer, takenAs, closeRefusal, closeOf};
 ghost use Rattle.spaces.specs.Spaces.{jointDimension, commonDimension};
 ghost use Rattle.pool.specs.Pool.{poolRefusal, poolOf, jointBuffer, commonBuffer, poolNumber, poolJoint, poolCommon};
 ghost use Rattle.pandrwyg.specs.Exported.{answerBytes, exportedOf, exportedNumber, exportedBytes};
@@ -115,23 +115,23 @@ pub fn receive_rows(q: u64, n: u64, k: u64, t: u64, row_count: u64, rows: &[u8])
 }
 
 pub fn start(q: u64, n: u64, k: u64) -> Started
-    ensures { λ r. ⌜ r ≡ startOf q n k ⌝ }
-    ensures { λ r. ⌜ startNumber r ≡ settingsRefusal q n k ⌝ }
+    ensures { λ r. ⌜ r ≡ startOf (setup q n k) ⌝ }
+    ensures { λ r. ⌜ startNumber r ≡ setupRefusal (setup q n k) ⌝ }
 {
     receiver::start(q, n, k)
 }
 
 pub fn take(receiver: Receiver, row: &[u8]) -> Taken
-    ensures { λ r. ⌜ (r ≡ takeOf receiver (now (row .entry))) × TakeTells receiver (now (row .entry)) r ⌝ }
+    ensures { λ r. ⌜ (r ≡ takeOf receiver (offer (now (row .entry)))) × TakeTells receiver (offer (now (row .entry))) r ⌝ }
 {
     receiver.take(row)
 }
 
 // Lends a local to Take, and hands back what is then in it.
 pub fn taken_lent(mut receiver: Receiver, row: &[u8]) -> Taken
-    ensures { λ r. ⌜ (r .answer ≡ lentAnswer receiver (now (row .entry)))
-        × TakeTells receiver (now (row .entry)) (takenAs (lentReceiver receiver (now (row .entry))) (r .answer))
-        × (r .receiver ≡ lentReceiver receiver (now (row .entry))) ⌝ }
+    ensures { λ r. ⌜ (r .answer ≡ lentAnswer receiver (offer (now (row .entry))))
+        × TakeTells receiver (offer (now (row .entry))) (takenAs (lentReceiver receiver (offer (now (row .entry)))) (r .answer))
+        × (r .receiver ≡ lentReceiver receiver (offer (now (row .entry)))) ⌝ }
 {
     let answer = receiver::take_lent(&mut receiver, row);
     Taken { receiver, answer }

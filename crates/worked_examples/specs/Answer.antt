@@ -26,7 +26,8 @@ use Rattle.reduce.specs.Reduce.{reduceOf, reduceBuffer, reductionNumber, reduct
 use Rattle.receive.specs.Answer.{receivedNumber, receivedIndex, receivedDimension, receivedVector}
 use Rattle.receive.specs.Receive.{receiveOf}
 use Rattle.receive.specs.declared.Received.{Received}
-use Rattle.receiver.specs.Receiver.{startOf, startNumber, takeOf, takeNumber, takeRaised, takeIdle, lentReceiver, lentAnswer, closeOf}
+use Rattle.receiver.specs.Receiver.{setup, offer, made, startOf, startNumber, takeOf, takeNumber, takeRaised, takeIdle}
+use Rattle.receiver.specs.Receiver.{lentReceiver, lentAnswer, closeOf}
 use Rattle.receiver.specs.declared.Receiver.{Receiver}
 use Rattle.receiver.specs.declared.TakeAnswer.{TakeAnswer}
 use Rattle.pool.specs.Pool.{poolOf, jointBuffer, commonBuffer, poolNumber, poolJoint, poolCommon}
@@ -55,8 +56,7 @@ abbrev pub lent : ℕ → List ℕ
 lent size = replicate size 165
 
 abbrev pub receiver : ℕ → ℕ → ℕ → ℕ → List ℕ → Receiver
-receiver q n k dimension entries =
-    record { entries = entries ++ replicate (256 - length entries) 0; q = q; n = n; k = k; dimension = dimension }
+receiver q n k dimension entries = made (setup q n k) dimension (entries ++ replicate (256 - length entries) 0)
 
 abbrev pub image : Receiver → List ℕ
 image r = r .q ∷ r .n ∷ r .k ∷ r .dimension ∷ r .entries
@@ -84,9 +84,9 @@ answer (reduce q n r rows output) =
     ∷ reduceBuffer q n r rows output
 answer (receive q n k t r rows) = received (receiveOf q n k t r rows)
 answer (receiveC q n k t r rows bytes) = exportedNumber q n k t r rows (length bytes) ∷ exportedBytes q n k t r rows bytes
-answer (start q n k) = startNumber (startOf q n k) ∷ image ((startOf q n k) .receiver)
-answer (takeValue r row) = takes ((takeOf r row) .answer) ++ image ((takeOf r row) .receiver)
-answer (takeLent r row) = takes (lentAnswer r row) ++ image (lentReceiver r row)
+answer (start q n k) = let s = startOf (setup q n k) in startNumber s ∷ image (s .receiver)
+answer (takeValue r row) = let t = takeOf r (offer row) in takes (t .answer) ++ image (t .receiver)
+answer (takeLent r row) = takes (lentAnswer r (offer row)) ++ image (lentReceiver r (offer row))
 answer (close r t) = received (closeOf r t)
 answer (pool a b joint common) =
     let p = poolOf a b (length joint) (length common) in

@@ -46,7 +46,7 @@ use denote.Triple.Table.{entered, cited}
 use denote.Triple.Walked.{says, Stays, stay-none, stay-none-slice, walkOf, AllGo, goes-none, goes-none-slice, Walks, ends-at, walked}
 use denote.Triple.Walked.{walk-meets}
 use denote.Exit.{yes}
-use Rattle.receiver.specs.Receiver.{lentReceiver, lentAnswer, takenAs, TakeTells}
+use Rattle.receiver.specs.Receiver.{offer, lentReceiver, lentAnswer, takenAs, TakeTells}
 use Rattle.receiver.specs.declared.Receiver.{Receiver}
 use Rattle.receiver.specs.declared.Taken.{Taken}
 use Rattle.receiver.specs.declared.TakeAnswer.{TakeAnswer}
@@ -155,14 +155,14 @@ module _ {M : Type 1} (𝓤 : URA M) (H : Heap 𝓤) (A : Atoms 𝓤) (W : Given
 
   -- what the lent Take says of its answer and of the receiver that it leaves
   abbrev Told : TakeAnswer → Type 0
-  Told t = (t ≡ lentAnswer h (s .now)) × TakeTells h (s .now) (takenAs (lentReceiver h (s .now)) t)
+  Told t = (t ≡ lentAnswer h (offer (s .now))) × TakeTells h (offer (s .now)) (takenAs (lentReceiver h (offer (s .now))) t)
 
   abbrev Last : Receiver → Type 0
-  Last y = y ≡ lentReceiver h (s .now)
+  Last y = y ≡ lentReceiver h (offer (s .now))
 
   -- both together, as they are to be said of what is handed back
   abbrev Said : Receiver → TakeAnswer → Type 0
-  Said y t = (t ≡ lentAnswer h (s .now)) × TakeTells h (s .now) (takenAs (lentReceiver h (s .now)) t) × (y ≡ lentReceiver h (s .now))
+  Said y t = (t ≡ lentAnswer h (offer (s .now))) × TakeTells h (offer (s .now)) (takenAs (lentReceiver h (offer (s .now))) t) × (y ≡ lentReceiver h (offer (s .now)))
 
   -- the last value of the reference, of which this is known
   leaves : (b ν : ℕ) (δ : GName) (t : TakeAnswer)
