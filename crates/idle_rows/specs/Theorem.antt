@@ -100,15 +100,10 @@ order-5 q n k settings = (
   λ r size cs ds w. let e = zeros-unharmed r size w in (e, λ t. ap (λ x. closeOf x t) e),
 )
 
-module _ (s : Setup) (t : ℕ) (settings : setupRefusal s ≡ 0) (known : isNumbering t ≡ true) where
-  abbrev q : ℕ
-  q = s .q
-
-  abbrev n : ℕ
-  n = s .n
-
-  abbrev k : ℕ
-  k = s .k
+module _ (q n k t : ℕ) (settings : settingsRefusal q n k ≡ 0) (known : isNumbering t ≡ true) where
+  -- what a receiver with these settings is started with
+  abbrev s : Setup
+  s = setup q n k
 
   begun-size : length ((begun s) .entries) ≡ 256
   begun-size = ap (λ r. length (r .entries)) (begun-holds s settings) ∙ holding-size s settings [] none
