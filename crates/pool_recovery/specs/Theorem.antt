@@ -12,7 +12,7 @@ use Rattle.settings.specs.Settings.{settingsRefusal}
 use Rattle.linear.specs.Span.{All, Mixed, HasVector, rowsOf}
 use Rattle.linear.specs.laws.Every.{all-append}
 use Rattle.numbering.specs.Numbering.{isNumbering}
-use Rattle.draw.specs.Draw.{drawBuffer}
+use Rattle.drawing.specs.Drawing.{drawing}
 use Rattle.receiver.specs.Receiver.{holding, closeOf}
 use Rattle.recovery.specs.Calls.{Call, begun, after, accepted}
 use Rattle.recovery.specs.Demand.{Buffer, Answers, told}
@@ -46,8 +46,8 @@ module _ (q n k t : ℕ) (settings : settingsRefusal q n k ≡ 0) (known : isNum
       (accepted-rows q n k settings ds)
 
   recovers : (i : ℕ) → i < gaussian q n k → (b : List ℕ) → Buffer n k b
-      → All (Mixed q n (rowsOf n k (drawBuffer q n k t i b))) (accepted (begun q n k) cs)
-      → All (Mixed q n (rowsOf n k (drawBuffer q n k t i b))) (accepted (begun q n k) ds)
+      → All (Mixed q n (rowsOf n k ((drawing q n k t) .leaves i b))) (accepted (begun q n k) cs)
+      → All (Mixed q n (rowsOf n k ((drawing q n k t) .leaves i b))) (accepted (begun q n k) ds)
       → Pooling q n k t i cs ds
   recovers i h b l first second =
       let e = accepted-append q n k settings cs ds in
@@ -62,8 +62,8 @@ pub order-1 : (q n k t : ℕ) → settingsRefusal q n k ≡ 0 → isNumbering t 
     → (poolNumber ((pooledAfter q n k cs ds) .answer) ≡ 0)
     × ((pooledAfter q n k cs ds) .receiver ≡ after (begun q n k) (cs ++ ds))
     × ((i : ℕ) → i < gaussian q n k → (b : List ℕ) → Buffer n k b
-    → All (Mixed q n (rowsOf n k (drawBuffer q n k t i b))) (accepted (begun q n k) cs)
-    → All (Mixed q n (rowsOf n k (drawBuffer q n k t i b))) (accepted (begun q n k) ds)
+    → All (Mixed q n (rowsOf n k ((drawing q n k t) .leaves i b))) (accepted (begun q n k) cs)
+    → All (Mixed q n (rowsOf n k ((drawing q n k t) .leaves i b))) (accepted (begun q n k) ds)
     → Pooling q n k t i cs ds)
 order-1 q n k t settings known cs ds =
     (number-none q n k t settings known cs ds, receiver-both q n k t settings known cs ds, recovers q n k t settings known cs ds)
