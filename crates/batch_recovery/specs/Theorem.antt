@@ -20,6 +20,7 @@ use Rattle.linear.specs.Span.{All, Mixed, rowsOf}
 use Rattle.numbering.specs.Numbering.{before, indexIn}
 use Rattle.numbering.specs.laws.Chosen.{chosen}
 use Rattle.draw.specs.Draw.{drawBuffer}
+use Rattle.drawing.specs.Drawing.{drawing}
 use Rattle.draw_batch.specs.Batch.{batchRefusal, batchMatrices, batchAnswers}
 use Rattle.draw_batch.specs.Places.{part, Place, order-6}
 use Rattle.draw_batch.specs.laws.BatchAccepted.{BatchAccepted, batch-accepted}
@@ -54,11 +55,11 @@ module _ (q n k t : ℕ) (indexes matrices answers : List ℕ)
   whole : BatchAccepted q n k t (length indexes) (length matrices) (length answers)
   whole = batch-accepted q n k t (length indexes) (length matrices) (length answers) unrefused
 
-  demand : Demand s t
+  demand : Demand s t (drawing q n k t)
   demand = let c = chosen q n k t (whole .choice) in demand-3 s t (not-refused q n k (c .settings)) (c .known)
 
-  drawing : (place : ℕ) → place < length indexes → Place q n k t (indexAt place) (lent place) (left place) (answer place)
-  drawing place h =
+  placed : (place : ℕ) → place < length indexes → Place q n k t (indexAt place) (lent place) (left place) (answer place)
+  placed place h =
       let p = order-6 q n k t indexes matrices answers .0 unrefused place h in
       record { leaves = p .0; answers = p .1; done = p .2; beyond = p .3 }
 
@@ -70,7 +71,7 @@ module _ (q n k t : ℕ) (indexes matrices answers : List ℕ)
   below place h z = cases (le-or-lt (gaussian q n k) (indexAt place))
     where
       cases : (gaussian q n k ≤ indexAt place) ⊎ (indexAt place < gaussian q n k) → indexAt place < gaussian q n k
-      cases (inl g) = absurd (omega (arith, z, drawing place h .beyond g .0))
+      cases (inl g) = absurd (omega (arith, z, placed place h .beyond g .0))
       cases (inr l) = l
 
   pub batch-recovers : (place : ℕ) → place < length indexes → answer place ≡ 0
@@ -81,8 +82,8 @@ module _ (q n k t : ℕ) (indexes matrices answers : List ℕ)
       → Reception q n k t (indexAt place) rows)
   batch-recovers place h z =
       let l = below place h z in
-      let e = drawing place h .leaves in
-      let d = drawing place h .done l in (
+      let e = placed place h .leaves in
+      let d = placed place h .done l in (
         l,
         reduced-numbered q n k t (left place) (whole .choice) (d .1) ∙ ap (λ x. Done (indexIn t x)) (d .2),
         λ cs m. demand .recovery (indexAt place) l (lent place) (sized place h) cs
@@ -97,13 +98,13 @@ module _ (q n k t : ℕ) (indexes matrices answers : List ℕ)
     where
       cases : (gaussian q n k ≤ indexAt place) ⊎ (indexAt place < gaussian q n k) → gaussian q n k ≤ indexAt place
       cases (inl g) = g
-      cases (inr l) = absurd (refused (drawing place h .done l .0))
+      cases (inr l) = absurd (refused (placed place h .done l .0))
 
   pub batch-otherwise : (place : ℕ) → place < length indexes → (answer place ≡ 0 → ⊥)
       → (gaussian q n k ≤ indexAt place) × (answer place ≡ 5) × (left place ≡ lent place)
   batch-otherwise place h refused =
       let g = above place h refused in
-      let b = drawing place h .beyond g in
+      let b = placed place h .beyond g in
       (g, b .0, b .1)
 
   pub batch-lists : length indexes ≡ gaussian q n k → ((i : ℕ) → i < gaussian q n k → indexAt i ≡ i)
@@ -122,14 +123,14 @@ module _ (q n k t : ℕ) (indexes matrices answers : List ℕ)
         subst₂ (before q n k t) (sym (is i l)) (sym (is j g)) (L .rising i j h g (lent i) (lent j) (room i l) (room j g)),
   )
     where
-      L : Listing q n k t
+      L : Listing q n k (drawing q n k t)
       L = demand .listing
 
       inside : (i : ℕ) → i < gaussian q n k → i < length indexes
       inside i h = subst (λ x. i < x) (sym all) h
 
       place : (i : ℕ) → i < gaussian q n k → Place q n k t (indexAt i) (lent i) (left i) (answer i)
-      place i h = drawing i (inside i h)
+      place i h = placed i (inside i h)
 
       here : (i : ℕ) → i < gaussian q n k → indexAt i < gaussian q n k
       here i h = subst (λ x. x < gaussian q n k) (sym (each i h)) h

@@ -23,8 +23,8 @@ use Rattle.matrix.specs.Matrix.{Reduced}
 use Rattle.numbering.specs.Numbering.{isNumbering, indexOf, drawn, indexIn}
 use Rattle.numbering.specs.laws.Chosen.{unrefused}
 use Rattle.numbering.specs.laws.Either.{either, typed-value}
-use Rattle.draw.specs.Draw.{drawRefusal, drawBuffer}
-use Rattle.draw.specs.laws.DrawAccepted.{draw-unrefused, draw-leaves}
+use Rattle.drawing.specs.Drawing.{drawing}
+use Rattle.drawing.specs.laws.Draws.{draws}
 use Rattle.number.specs.Number.{numberOf, answerIndex}
 use Rattle.number.specs.declared.Numbered.the-variants.{Done}
 use Rattle.number.specs.laws.NumberAccepted.{reduced-numbered}
@@ -34,21 +34,18 @@ use Rattle.convert.specs.laws.ConvertAccepted.{convert-unrefused, convert-done}
 pub drawn-numbered : (q n k from to : ℕ) → settingsRefusal q n k ≡ 0 → isNumbering from ≡ true → isNumbering to ≡ true
     → (i : ℕ) → i < gaussian q n k → (b : List ℕ) → length b ≡ k * n
     → (j : ℕ)
-    × (drawRefusal q n k from i (length b) ≡ 0)
+    × ((drawing q n k from) .refusal i (length b) ≡ 0)
     × (j < gaussian q n k)
-    × (numberOf q n k to (drawBuffer q n k from i b) ≡ Done (indexIn to j))
+    × (numberOf q n k to ((drawing q n k from) .leaves i b) ≡ Done (indexIn to j))
 drawn-numbered q n k from to settings first second i h b sized = (
-  indexOf q n k to (drawBuffer q n k from i b),
-  draws,
+  indexOf q n k to ((drawing q n k from) .leaves i b),
+  draws q n k from settings first .done i h b sized,
   either q n k to settings .index-below _ reduced,
   reduced-numbered q n k to _ (unrefused q n k to settings second) reduced,
 )
   where
-    draws : drawRefusal q n k from i (length b) ≡ 0
-    draws = draw-unrefused q n k from i (length b) (unrefused q n k from settings first) sized h
-
-    reduced : Reduced q n k (drawBuffer q n k from i b)
-    reduced = subst (Reduced q n k) (draw-leaves q n k from i b draws) (either q n k from settings .drawn-reduced i h)
+    reduced : Reduced q n k ((drawing q n k from) .leaves i b)
+    reduced = subst (Reduced q n k) (draws q n k from settings first .given i h b sized) (either q n k from settings .drawn-reduced i h)
 
 -- the answer by the definitions of the numberings
 answers : (q n k from to : ℕ) → settingsRefusal q n k ≡ 0 → isNumbering from ≡ true → isNumbering to ≡ true
@@ -58,11 +55,11 @@ answers q n k from to settings first second i h =
 
 pub converted-as-numbered : (q n k from to : ℕ) → settingsRefusal q n k ≡ 0 → isNumbering from ≡ true → isNumbering to ≡ true
     → (i : ℕ) → i < gaussian q n k → (b : List ℕ) → length b ≡ k * n
-    → convertOf q n k from to i ≡ numberOf q n k to (drawBuffer q n k from i b)
+    → convertOf q n k from to i ≡ numberOf q n k to ((drawing q n k from) .leaves i b)
 converted-as-numbered q n k from to settings first second i h b sized =
     answers q n k from to settings first second i h
     ∙ sym (reduced-numbered q n k to _ (unrefused q n k to settings second) (either q n k from settings .drawn-reduced i h))
-    ∙ ap (numberOf q n k to) (draw-leaves q n k from i b (drawn-numbered q n k from to settings first second i h b sized .1))
+    ∙ ap (numberOf q n k to) (draws q n k from settings first .given i h b sized)
 
 -- an answer tells one index
 done-index : (t i j : ℕ) → Done (indexIn t i) ≡ Done (indexIn t j) → i ≡ j

@@ -20,7 +20,7 @@ use Rattle.linear.specs.Span.{All, none, Row, InSpan, Mixed, rowsOf}
 use Rattle.linear.specs.laws.Mixture.{span-zero, mixed-in-span}
 use Rattle.linear.specs.laws.ReducedRows.{reduced-rows}
 use Rattle.numbering.specs.Numbering.{isNumbering}
-use Rattle.draw.specs.Draw.{drawBuffer}
+use Rattle.drawing.specs.Drawing.{drawing}
 use Rattle.receiver.specs.Receiver.{Setup, Offer, setup, offer, setupRefusal, takeOf, takenAs, lentReceiver, lentAnswer, takeIdle, closeOf}
 use Rattle.receiver.specs.laws.Held.{settings-laws, holding-size}
 use Rattle.receiver.specs.declared.Receiver.{Receiver}
@@ -109,7 +109,7 @@ module _ (q n k t : ℕ) (settings : settingsRefusal q n k ≡ 0) (known : isNum
   begun-size = ap (λ r. length (r .entries)) (begun-holds s settings) ∙ holding-size s settings [] none
 
   pub record-unharmed : (i : ℕ) → i < gaussian q n k → (b : List ℕ) → Buffer n k b → (cs ds : List Call) → WithIdle n cs ds
-      → All (Mixed q n (rowsOf n k (drawBuffer q n k t i b))) (accepted (begun s) cs)
+      → All (Mixed q n (rowsOf n k ((drawing q n k t) .leaves i b))) (accepted (begun s) cs)
       → Recovery s t i ds × Answers q n k i (accepted (begun s) cs) (told (closeOf (after (begun s) ds) t))
   record-unharmed i h b l cs ds w mixed = (
     D .recovery i h b l ds
@@ -119,15 +119,15 @@ module _ (q n k t : ℕ) (settings : settingsRefusal q n k ≡ 0) (known : isNum
         (D .recovery i h b l cs mixed .answers),
   )
     where
-      D : Demand s t
+      D : Demand s t (drawing q n k t)
       D = demand-3 s t settings known
 
       drawnRows : List (List ℕ)
-      drawnRows = rowsOf n k (drawBuffer q n k t i b)
+      drawnRows = rowsOf n k ((drawing q n k t) .leaves i b)
 
-      zero : Mixed q n (rowsOf n k (drawBuffer q n k t i b)) (zeroRow n)
+      zero : Mixed q n (rowsOf n k ((drawing q n k t) .leaves i b)) (zeroRow n)
       zero =
           let law = settings-laws q n k settings in
           let valid = reduced-rows q n (D .listing .reduced i h b l) in
-          mixed-in-span q law n (rowsOf n k (drawBuffer q n k t i b)) valid (zeroRow n) .1
-          (span-zero q law n (rowsOf n k (drawBuffer q n k t i b)) valid)
+          mixed-in-span q law n (rowsOf n k ((drawing q n k t) .leaves i b)) valid (zeroRow n) .1
+          (span-zero q law n (rowsOf n k ((drawing q n k t) .leaves i b)) valid)

@@ -17,7 +17,7 @@ use Rattle.linear.specs.Eliminate.{dimension}
 use Rattle.linear.specs.laws.Every.{all-append}
 use Rattle.linear.specs.laws.ReducedOf.{reducedRows-span, dimension-has, vector-has}
 use Rattle.numbering.specs.Numbering.{isNumbering, indexIn}
-use Rattle.draw.specs.Draw.{drawBuffer}
+use Rattle.drawing.specs.Drawing.{drawing}
 use Rattle.spaces.specs.Spaces.{JointSpace, CommonSpace, jointOf, jointDimension}
 use Rattle.receive.specs.declared.Received.the-variants.{Done}
 use Rattle.receiver.specs.Receiver.{Setup, setup, setupOf, setupRefusal, noSetup, empty, used, heldRows, holding, closeOf}
@@ -233,8 +233,8 @@ pub order-1-flat :
     × (p .receiver ≡ after (begun s) (cs ++ ds))
     -- Where both receivers since their start accepted only mixtures of the rows of one matrix drawn with their settings,
     × ((t : ℕ) → isNumbering t ≡ true → (i : ℕ) → i < gaussian q n k → (b : List ℕ) → length b ≡ k * n
-    → All (Mixed q n (rowsOf n k (drawBuffer q n k t i b))) us
-    → All (Mixed q n (rowsOf n k (drawBuffer q n k t i b))) vs
+    → All (Mixed q n (rowsOf n k ((drawing q n k t) .leaves i b))) us
+    → All (Mixed q n (rowsOf n k ((drawing q n k t) .leaves i b))) vs
     -- closing the pooled receiver in the draw's numbering must give the drawn index exactly when k dimensions are reached."
     → (tells (closeOf (p .receiver) t) 0 i ↔ (poolJoint (p .answer) ≡ k))
     × ((v : ℕ) → HasVector q n (us ++ vs) k v → closeOf (p .receiver) t ≡ Done (indexIn t i) (record { dimension = k; vector = v }))

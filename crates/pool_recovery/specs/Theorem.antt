@@ -1,6 +1,6 @@
 -- Order 1's promise is met.
---   order-1         == for a setup that is accepted and any two lists of calls, each on a receiver of its own from a fresh Start: pooling the
---                      two is not refused, and hands back the receiver that took both lists; and where all rows that they accepted are
+--   order-1         == for a setup that is accepted and any two lists of calls, each on a receiver of its own from a fresh Start: pooling
+--                      the two is not refused, and hands back the receiver that took both lists; and where all rows that they accepted are
 --                      Mixed from the matrix that Draw leaves for i, closing it answers as Pooling says
 -- Assumes nothing.
 use mathlib.Core.Path.{_≡_, refl, ap, ap₂, sym, _∙_, subst, subst₂}
@@ -11,7 +11,7 @@ use Rattle.counts.specs.Gaussian.{gaussian}
 use Rattle.linear.specs.Span.{All, Mixed, HasVector, rowsOf}
 use Rattle.linear.specs.laws.Every.{all-append}
 use Rattle.numbering.specs.Numbering.{isNumbering}
-use Rattle.draw.specs.Draw.{drawBuffer}
+use Rattle.drawing.specs.Drawing.{drawing}
 use Rattle.receiver.specs.Receiver.{Setup, setupRefusal, holding, closeOf}
 use Rattle.recovery.specs.Calls.{Call, begun, after, accepted}
 use Rattle.recovery.specs.Demand.{Buffer, Answers, told}
@@ -54,8 +54,8 @@ module _ (s : Setup) (t : ℕ) (settings : setupRefusal s ≡ 0) (known : isNumb
       (accepted-rows s settings ds)
 
   recovers : (i : ℕ) → i < gaussian q n k → (b : List ℕ) → Buffer n k b
-      → All (Mixed q n (rowsOf n k (drawBuffer q n k t i b))) (accepted (begun s) cs)
-      → All (Mixed q n (rowsOf n k (drawBuffer q n k t i b))) (accepted (begun s) ds)
+      → All (Mixed q n (rowsOf n k ((drawing q n k t) .leaves i b))) (accepted (begun s) cs)
+      → All (Mixed q n (rowsOf n k ((drawing q n k t) .leaves i b))) (accepted (begun s) ds)
       → Pooling s t i cs ds
   recovers i h b l first second =
       let e = accepted-append s settings cs ds in
@@ -70,8 +70,8 @@ pub order-1 : (s : Setup) (t : ℕ) → setupRefusal s ≡ 0 → isNumbering t �
     → (poolNumber ((pooledAfter s cs ds) .answer) ≡ 0)
     × ((pooledAfter s cs ds) .receiver ≡ after (begun s) (cs ++ ds))
     × ((i : ℕ) → i < gaussian (s .q) (s .n) (s .k) → (b : List ℕ) → Buffer (s .n) (s .k) b
-    → All (Mixed (s .q) (s .n) (rowsOf (s .n) (s .k) (drawBuffer (s .q) (s .n) (s .k) t i b))) (accepted (begun s) cs)
-    → All (Mixed (s .q) (s .n) (rowsOf (s .n) (s .k) (drawBuffer (s .q) (s .n) (s .k) t i b))) (accepted (begun s) ds)
+    → All (Mixed (s .q) (s .n) (rowsOf (s .n) (s .k) ((drawing (s .q) (s .n) (s .k) t) .leaves i b))) (accepted (begun s) cs)
+    → All (Mixed (s .q) (s .n) (rowsOf (s .n) (s .k) ((drawing (s .q) (s .n) (s .k) t) .leaves i b))) (accepted (begun s) ds)
     → Pooling s t i cs ds)
 order-1 s t settings known cs ds =
     (number-none s t settings known cs ds, receiver-both s t settings known cs ds, recovers s t settings known cs ds)

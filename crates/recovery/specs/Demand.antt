@@ -5,7 +5,7 @@
 -- which every row accepted is such a mixture: closing after it, in the draw's numbering, gives back the drawn index, unrefused, exactly
 -- when the accepted rows span k dimensions; if fewer, it refuses with 8 and their true dimension. Receive, given none to 64 such rows in
 -- one call, in that numbering, answers alike for them." `Flat` says it once more, without a record, under the user's words.
---   Listing q n k t      == drawing 0 to N-1. Document 01: "A listing by Draw is told by separate draws: every index below N gives a
+--   Listing q n k D      == drawing 0 to N-1. Document 01: "A listing by Draw is told by separate draws: every index below N gives a
 --                           reduced k×n matrix, unrefused; each such matrix comes from exactly one of these indexes; and of any two of
 --                           these indexes the smaller gives the matrix that comes first in the numbering's order."
 --   Answer               == what an answer tells in document 01's numbers: the refusal number, the index and the dimension; and order 2's
@@ -19,7 +19,7 @@
 --                           true ones
 --   Recovery s t i cs    == closing after the list cs answers so for the rows that were accepted
 --   Reception q n k t i rows == Receive of the rows answers so, by value and for C
---   Demand s t           == all of it; and of every list of calls, mixtures or not: "No call of the list is refused 14. A row is accepted
+--   Demand s t D         == all of it, of what D draws; and of every list of calls, mixtures or not: "No call of the list is refused 14. A row is accepted
 --                           when Take names no refusal for it, so here when it is n bytes, each below q."
 -- Assumes nothing.
 use mathlib.Core.Path.{_≡_}
@@ -27,12 +27,11 @@ use mathlib.Core.Logic.{_↔_}
 use mathlib.Core.List.{List, [], _∷_}
 use Prim.Native.Nat.{ℕ, _+_, _*_, _<_, _≤_}
 use lib.ListN.{length, getD, take, drop}
-use Rattle.counts.specs.Gaussian.{gaussian}
 use Rattle.matrix.specs.Matrix.{Reduced}
 use Rattle.linear.specs.Span.{All, Mixed, rowsOf, HasDimension, HasVector}
 use Rattle.linear.specs.Eliminate.{join}
-use Rattle.numbering.specs.Numbering.{before, indexIn}
-use Rattle.draw.specs.Draw.{drawRefusal, drawBuffer}
+use Rattle.numbering.specs.Numbering.{indexIn}
+use Rattle.drawing.specs.Drawing.{Drawing}
 use Rattle.reduce.specs.Reduce.{mostRows}
 use Rattle.receive.specs.Answer.{receivedNumber, receivedIndex, receivedDimension, receivedVector}
 use Rattle.receive.specs.Receive.{receiveOf}
@@ -46,14 +45,13 @@ use Rattle.recovery.specs.Calls.{Call, begun, after, accepted, offered, 
 abbrev pub Buffer : ℕ → ℕ → List ℕ → Type 0
 Buffer n k b = length b ≡ k * n
 
-pub record Listing (q n k t : ℕ) : Type 0 where
-  pub unrefused : (i : ℕ) → i < gaussian q n k → (b : List ℕ) → Buffer n k b → drawRefusal q n k t i (length b) ≡ 0
-  pub reduced : (i : ℕ) → i < gaussian q n k → (b : List ℕ) → Buffer n k b → Reduced q n k (drawBuffer q n k t i b)
-  pub every : (m : List ℕ) → Reduced q n k m → (i : ℕ) × (i < gaussian q n k) × ((b : List ℕ) → Buffer n k b → drawBuffer q n k t i b ≡ m)
-  pub once : (i j : ℕ) → i < gaussian q n k → j < gaussian q n k → (a b : List ℕ) → Buffer n k a → Buffer n k b
-      → drawBuffer q n k t i a ≡ drawBuffer q n k t j b → i ≡ j
-  pub rising : (i j : ℕ) → i < j → j < gaussian q n k → (a b : List ℕ) → Buffer n k a → Buffer n k b
-      → before q n k t (drawBuffer q n k t i a) (drawBuffer q n k t j b)
+pub record Listing (q n k : ℕ) (D : Drawing) : Type 0 where
+  pub unrefused : (i : ℕ) → i < D .count → (b : List ℕ) → Buffer n k b → D .refusal i (length b) ≡ 0
+  pub reduced : (i : ℕ) → i < D .count → (b : List ℕ) → Buffer n k b → Reduced q n k (D .leaves i b)
+  pub every : (m : List ℕ) → Reduced q n k m → (i : ℕ) × (i < D .count) × ((b : List ℕ) → Buffer n k b → D .leaves i b ≡ m)
+  pub once : (i j : ℕ) → i < D .count → j < D .count → (a b : List ℕ) → Buffer n k a → Buffer n k b → D .leaves i a ≡ D .leaves j b → i ≡ j
+  pub rising : (i j : ℕ) → i < j → j < D .count → (a b : List ℕ) → Buffer n k a → Buffer n k b
+      → D .order (D .leaves i a) (D .leaves j b)
 
 pub record Answer : Type 0 where
   pub number : ℕ
@@ -97,13 +95,13 @@ pub record Reception (q n k t i : ℕ) (rows : List (List ℕ)) : Type 0 where
   pub fewer-bytes : (b : List ℕ) → length b ≡ answerSize → (d v : ℕ) → HasVector q n rows d v → d < k
       → exportedBytes q n k t (length rows) (join rows) b ≡ answerBytes 0 d v
 
-pub record Demand (s : Setup) (t : ℕ) : Type 0 where
-  pub listing : Listing (s .q) (s .n) (s .k) t
+pub record Demand (s : Setup) (t : ℕ) (D : Drawing) : Type 0 where
+  pub listing : Listing (s .q) (s .n) (s .k) D
   pub unforged : (cs : List Call) → Unforged (begun s) cs
   pub fits : (cs : List Call) → accepted (begun s) cs ≡ fitting s (offered cs)
-  pub recovery : (i : ℕ) → i < gaussian (s .q) (s .n) (s .k) → (b : List ℕ) → Buffer (s .n) (s .k) b → (cs : List Call)
-      → All (Mixed (s .q) (s .n) (rowsOf (s .n) (s .k) (drawBuffer (s .q) (s .n) (s .k) t i b))) (accepted (begun s) cs)
+  pub recovery : (i : ℕ) → i < D .count → (b : List ℕ) → Buffer (s .n) (s .k) b → (cs : List Call)
+      → All (Mixed (s .q) (s .n) (rowsOf (s .n) (s .k) (D .leaves i b))) (accepted (begun s) cs)
       → Recovery s t i cs
-  pub reception : (i : ℕ) → i < gaussian (s .q) (s .n) (s .k) → (b : List ℕ) → Buffer (s .n) (s .k) b → (rows : List (List ℕ)) → length rows ≤ mostRows
-      → All (Mixed (s .q) (s .n) (rowsOf (s .n) (s .k) (drawBuffer (s .q) (s .n) (s .k) t i b))) rows
+  pub reception : (i : ℕ) → i < D .count → (b : List ℕ) → Buffer (s .n) (s .k) b → (rows : List (List ℕ)) → length rows ≤ mostRows
+      → All (Mixed (s .q) (s .n) (rowsOf (s .n) (s .k) (D .leaves i b))) rows
       → Reception (s .q) (s .n) (s .k) t i rows

@@ -2,7 +2,7 @@
 -- fields alone, and uses each of them; a reader may believe either.
 --   demand-3-flat == "Suppose settings are accepted and have N spaces. Then, in either numbering, .."
 -- Assumes nothing.
-use mathlib.Core.Path.{_≡_}
+use mathlib.Core.Path.{_≡_, refl}
 use mathlib.Core.Bool.{true}
 use mathlib.Core.List.{List}
 use mathlib.Core.Logic.{_↔_}
@@ -13,8 +13,8 @@ use Rattle.settings.specs.Settings.{settingsRefusal}
 use Rattle.matrix.specs.Matrix.{Reduced}
 use Rattle.linear.specs.Span.{All, Mixed, rowsOf, HasDimension, HasVector}
 use Rattle.linear.specs.Eliminate.{join}
-use Rattle.numbering.specs.Numbering.{isNumbering, before, indexIn}
-use Rattle.draw.specs.Draw.{drawRefusal, drawBuffer}
+use Rattle.numbering.specs.Numbering.{isNumbering, indexIn}
+use Rattle.drawing.specs.Drawing.{drawing}
 use Rattle.receive.specs.Answer.{receivedNumber, receivedIndex, receivedDimension, receivedVector}
 use Rattle.receive.specs.Receive.{receiveOf}
 use Rattle.receive.specs.declared.Received.{Received}
@@ -43,26 +43,29 @@ readsSpace bytes dimension vector = (getD bytes 8 0 ≡ dimension) × (littleEnd
 
 pub demand-3-flat :
     -- "Suppose settings are accepted and have N spaces. Then, in either numbering,
-    (q n k t : ℕ) → settingsRefusal q n k ≡ 0 → isNumbering t ≡ true → let s = setup q n k in
+    (q n k t : ℕ) → settingsRefusal q n k ≡ 0 → isNumbering t ≡ true
+    → let s = setup q n k in
+    let D = drawing q n k t in
     -- drawing 0 to N-1 lists
-    ((i : ℕ) → i < gaussian q n k → (b : List ℕ) → length b ≡ k * n
-    → (drawRefusal q n k t i (length b) ≡ 0) × Reduced q n k (drawBuffer q n k t i b))
+    (D .count ≡ gaussian q n k)
+    × ((i : ℕ) → i < D .count → (b : List ℕ) → length b ≡ k * n
+    → (D .refusal i (length b) ≡ 0) × Reduced q n k (D .leaves i b))
     -- every reduced k-by-n matrix
     × ((m : List ℕ) → Reduced q n k m
-    → (i : ℕ) × (i < gaussian q n k) × ((b : List ℕ) → length b ≡ k * n → drawBuffer q n k t i b ≡ m))
+    → (i : ℕ) × (i < D .count) × ((b : List ℕ) → length b ≡ k * n → D .leaves i b ≡ m))
     -- exactly once,
-    × ((i j : ℕ) → i < gaussian q n k → j < gaussian q n k → (a b : List ℕ) → length a ≡ k * n → length b ≡ k * n
-    → drawBuffer q n k t i a ≡ drawBuffer q n k t j b → i ≡ j)
+    × ((i j : ℕ) → i < D .count → j < D .count → (a b : List ℕ) → length a ≡ k * n → length b ≡ k * n
+    → D .leaves i a ≡ D .leaves j b → i ≡ j)
     -- strictly rising in that numbering's order, the order told by comparing matrices alone.
-    × ((i j : ℕ) → i < j → j < gaussian q n k → (a b : List ℕ) → length a ≡ k * n → length b ≡ k * n
-    → before q n k t (drawBuffer q n k t i a) (drawBuffer q n k t j b))
+    × ((i j : ℕ) → i < j → j < D .count → (a b : List ℕ) → length a ≡ k * n → length b ≡ k * n
+    → D .order (D .leaves i a) (D .leaves j b))
     -- (No call of a list is refused 14, and a row is accepted exactly when it is n bytes, each below q, mixture or not.)
     × ((cs : List Call) → Unforged (begun s) cs × (accepted (begun s) cs ≡ fitting s (offered cs)))
     -- Draw any one of them,
-    × ((i : ℕ) → i < gaussian q n k → (b : List ℕ) → length b ≡ k * n
+    × ((i : ℕ) → i < D .count → (b : List ℕ) → length b ≡ k * n
     -- and let rows be mixed from its rows over the field, in whatever way and sequence. Then for every list of Take and Close calls on one
     -- receiver, refused ones included, from a fresh Start with these settings, in which every row accepted is such a mixture:
-    → ((cs : List Call) → All (Mixed q n (rowsOf n k (drawBuffer q n k t i b))) (accepted (begun s) cs)
+    → ((cs : List Call) → All (Mixed q n (rowsOf n k (D .leaves i b))) (accepted (begun s) cs)
     -- (the accepted rows have a dimension, at most k, and an identifying vector;)
     → ((d v : ℕ) × HasVector q n (accepted (begun s) cs) d v)
     × ((d : ℕ) → HasDimension q n (accepted (begun s) cs) d → d ≤ k)
@@ -75,7 +78,7 @@ pub demand-3-flat :
     -- and their true dimension. (It tells the true dimension either way, and with it the true identifying vector.)
     × ((d v : ℕ) → HasVector q n (accepted (begun s) cs) d v → tellsSpace (closeOf (after (begun s) cs) t) d v))
     -- Receive, given none to 64 such rows in one call, in that numbering,
-    × ((rows : List (List ℕ)) → length rows ≤ 64 → All (Mixed q n (rowsOf n k (drawBuffer q n k t i b))) rows
+    × ((rows : List (List ℕ)) → length rows ≤ 64 → All (Mixed q n (rowsOf n k (D .leaves i b))) rows
     -- answers alike for them."
     → ((d v : ℕ) × HasVector q n rows d v)
     × ((d : ℕ) → HasDimension q n rows d → d ≤ k)
@@ -96,6 +99,7 @@ pub demand-3-flat :
 demand-3-flat q n k t settings known =
     let D = demand-3 (setup q n k) t settings known in
     let L = D .listing in (
+      refl,
       λ i h b l. (L .unrefused i h b l, L .reduced i h b l),
       L .every,
       L .once,

@@ -22,7 +22,8 @@ use Rattle.linear.specs.Eliminate.{join, reducedOf, dimension}
 use Rattle.numbering.specs.Numbering.{isNumbering, numberingOf, indexOf, drawn, indexIn}
 use Rattle.numbering.specs.laws.Chosen.{unrefused}
 use Rattle.numbering.specs.laws.Either.{Orderly, either}
-use Rattle.draw.specs.Draw.{drawBuffer}
+use Rattle.drawing.specs.Drawing.{drawing}
+use Rattle.drawing.specs.laws.Draws.{draws}
 use Rattle.number.specs.Number.{numberOf}
 use Rattle.number.specs.declared.Numbered.the-variants.{Done}
 use Rattle.number.specs.laws.NumberAccepted.{reduced-numbered}
@@ -35,7 +36,6 @@ use Rattle.receiver.specs.Receiver.{setup, closeOf}
 use Rattle.pandrwyg.specs.Exported.{answerSize, exportedOf}
 use Rattle.recovery.specs.Calls.{Call, begun, after, accepted}
 use Rattle.recovery.specs.Demand.{Buffer}
-use Rattle.recovery.specs.Theorem.{leaves}
 use Rattle.recovery.specs.Promises.{reduced-matrix-exactly, drawn-exactly}
 use Rattle.recovery.specs.laws.After.{accepted-rows}
 use Rattle.recovery.specs.laws.RecoverRows.{receive-rows, exported-rows, close-after}
@@ -43,9 +43,9 @@ use Rattle.receiver.specs.laws.Held.{settings-laws}
 
 pub record Numbers (q n k t : ℕ) : Type 0 where
   pub by-formula : (m : List ℕ) → Reduced q n k m → numberOf q n k t m ≡ Done (indexIn t (indexOf q n k t m))
-  pub drawn-back : (m : List ℕ) → Reduced q n k m → (b : List ℕ) → Buffer n k b → drawBuffer q n k t (indexOf q n k t m) b ≡ m
+  pub drawn-back : (m : List ℕ) → Reduced q n k m → (b : List ℕ) → Buffer n k b → (drawing q n k t) .leaves (indexOf q n k t m) b ≡ m
   pub numbered-back : (i : ℕ) → i < gaussian q n k → (b : List ℕ) → Buffer n k b
-      → numberOf q n k t (drawBuffer q n k t i b) ≡ Done (indexIn t i)
+      → numberOf q n k t ((drawing q n k t) .leaves i b) ≡ Done (indexIn t i)
   pub converted : (to : ℕ) → isNumbering to ≡ true → (m : List ℕ) → Reduced q n k m
       → convertOf q n k t to (indexOf q n k t m) ≡ Done (indexIn to (indexOf q n k to m))
   pub one : (rows : List (List ℕ)) → All (Row q n) rows
@@ -93,11 +93,11 @@ module _ (q n k : ℕ) (settings : settingsRefusal q n k ≡ 0) where
         drawn-back =
             λ m R b l.
             let below = orderly t .index-below m R in
-            sym (leaves (setup q n k) t settings known (indexOf q n k t m) below b l)
+            sym (draws q n k t settings known .given (indexOf q n k t m) below b l)
             ∙ sym (drawn-exactly q n k t settings (indexOf q n k t m) below m .0 (R, refl));
         numbered-back =
             λ i h b l.
-            ap (numberOf q n k t) (sym (leaves (setup q n k) t settings known i h b l))
+            ap (numberOf q n k t) (sym (draws q n k t settings known .given i h b l))
             ∙ numbers t known (drawn q n k t i) (orderly t .drawn-reduced i h)
             ∙ ap (λ x. Done (indexIn t x)) (orderly t .index-of-drawn i h);
         converted = λ to other m R. converts t to known other m R;
@@ -121,8 +121,8 @@ pub demand-2-flat :
     -- "A reduced matrix gets the extended or Ferrers index that Silberstein and Etzion define,
     ((m : List ℕ) → Reduced q n k m → numberOf q n k t m ≡ Done (indexIn t (indexOf q n k t m)))
     -- and an index below the count gets the matrix with that index.
-    × ((m : List ℕ) → Reduced q n k m → (b : List ℕ) → length b ≡ k * n → drawBuffer q n k t (indexOf q n k t m) b ≡ m)
-    × ((i : ℕ) → i < gaussian q n k → (b : List ℕ) → length b ≡ k * n → numberOf q n k t (drawBuffer q n k t i b) ≡ Done (indexIn t i))
+    × ((m : List ℕ) → Reduced q n k m → (b : List ℕ) → length b ≡ k * n → (drawing q n k t) .leaves (indexOf q n k t m) b ≡ m)
+    × ((i : ℕ) → i < gaussian q n k → (b : List ℕ) → length b ≡ k * n → numberOf q n k t ((drawing q n k t) .leaves i b) ≡ Done (indexIn t i))
     -- (So an index is converted to that of its matrix in the other numbering.)
     × ((to : ℕ) → isNumbering to ≡ true → (m : List ℕ) → Reduced q n k m
     → convertOf q n k t to (indexOf q n k t m) ≡ Done (indexIn to (indexOf q n k to m)))

@@ -162,7 +162,9 @@ module _ {M : Type 1} (𝓤 : URA M) (H : Heap 𝓤) (A : Atoms 𝓤) (W : Given
 
   -- both together, as they are to be said of what is handed back
   abbrev Said : Receiver → TakeAnswer → Type 0
-  Said y t = (t ≡ lentAnswer h (offer (s .now))) × TakeTells h (offer (s .now)) (takenAs (lentReceiver h (offer (s .now))) t) × (y ≡ lentReceiver h (offer (s .now)))
+  Said y t = (t ≡ lentAnswer h (offer (s .now)))
+      × TakeTells h (offer (s .now)) (takenAs (lentReceiver h (offer (s .now))) t)
+      × (y ≡ lentReceiver h (offer (s .now)))
 
   -- the last value of the reference, of which this is known
   leaves : (b ν : ℕ) (δ : GName) (t : TakeAnswer)

@@ -41,5 +41,6 @@ module _ (s : Setup) (settings : setupRefusal s ≡ 0) where
     pub after-dimension : HasDimension (s .q) (s .n) (accepted (begun s) cs) ((after (begun s) cs) .dimension)
     unfolding holding
     after-dimension =
-        dimension-has (s .q) (settings-laws (s .q) (s .n) (s .k) settings) (s .n) (accepted (begun s) cs) accepted-rows ((after (begun s) cs) .dimension) .1
+        dimension-has (s .q) (settings-laws (s .q) (s .n) (s .k) settings) (s .n) (accepted (begun s) cs) accepted-rows
+        ((after (begun s) cs) .dimension) .1
         (sym (ap (λ r. r .dimension) after-holds))

@@ -50,7 +50,8 @@ space-number q n k t d m = cases (ltb d k) (ltb k d)
 
 module _ (s : Setup) (settings : setupRefusal s ≡ 0) where
   -- Close is not refused 14
-  close-unforged : (rows : List (List ℕ)) → All (Row (s .q) (s .n)) rows → (t : ℕ) → receivedNumber (closeOf (holding s rows) t) ≡ receiverRefusal
+  close-unforged : (rows : List (List ℕ)) → All (Row (s .q) (s .n)) rows → (t : ℕ)
+      → receivedNumber (closeOf (holding s rows) t) ≡ receiverRefusal
       → ⊥
   unfolding closeOf closeRefusal
   close-unforged rows h t = cases (isNumbering t) refl

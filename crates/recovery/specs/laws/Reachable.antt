@@ -54,7 +54,8 @@ reachable-size reached =
 
 module _ (s : Setup) (settings : setupRefusal s ≡ 0) where
   -- the rows taken one after the other
-  grown : (held : List (List ℕ)) → All (Row (s .q) (s .n)) held → Reachable (holding s held) → {rows : List (List ℕ)} → All (Row (s .q) (s .n)) rows
+  grown : (held : List (List ℕ)) → All (Row (s .q) (s .n)) held → Reachable (holding s held)
+      → {rows : List (List ℕ)} → All (Row (s .q) (s .n)) rows
       → Reachable (holding s (held ++ rows))
   grown held h reached none = subst (λ x. Reachable (holding s x)) (sym (append-nil held)) reached
   grown held h reached (more {x = row} {xs = rows} hr hs) =

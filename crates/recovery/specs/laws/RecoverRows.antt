@@ -179,7 +179,8 @@ module _ (s : Setup) (t : ℕ) (settings : setupRefusal s ≡ 0) (known : isNumb
       let within = spanned (s .q) (s .n) (s .k) t settings known m R mixed in
       record {
         answers =
-            subst (λ a. Answers (s .q) (s .n) (s .k) (indexOf (s .q) (s .n) (s .k) t m) (accepted (begun s) cs) (told a)) (sym (close-after cs))
+            subst (λ a. Answers (s .q) (s .n) (s .k) (indexOf (s .q) (s .n) (s .k) t m) (accepted (begun s) cs) (told a))
+            (sym (close-after cs))
             (space-answers (s .q) (s .n) (s .k) t settings m R rows within);
         typed = λ v h. close-after cs ∙ space-typed (s .q) (s .n) (s .k) t settings m R rows within v h;
       }

@@ -25,7 +25,7 @@ use Rattle.linear.specs.laws.Mixture.{span-each, span-same, mixed-in-span}
 use Rattle.linear.specs.laws.FlatMatrix.{rows-length, join-rows}
 use Rattle.linear.specs.laws.ReducedRows.{reduced-rows}
 use Rattle.numbering.specs.Numbering.{isNumbering, indexIn}
-use Rattle.draw.specs.Draw.{drawBuffer}
+use Rattle.drawing.specs.Drawing.{drawing}
 use Rattle.reduce.specs.Reduce.{spaceOf}
 use Rattle.receive.specs.Receive.{receiveOf}
 use Rattle.receive.specs.declared.Received.the-variants.{Done}
@@ -90,6 +90,7 @@ among-offered (later a) = later (among-offered a)
 
 module _ (q n k t : ℕ) (settings : settingsRefusal q n k ≡ 0) (known : isNumbering t ≡ true) (i : ℕ) (h : i < gaussian q n k)
     (b : List ℕ) (sized : Buffer n k b) where
+  -- what a receiver with these settings is started with
   abbrev s : Setup
   s = setup q n k
 
@@ -98,22 +99,22 @@ module _ (q n k t : ℕ) (settings : settingsRefusal q n k ≡ 0) (known : isNum
 
   -- the drawn rows
   abbrev drawnRows : List (List ℕ)
-  drawnRows = rowsOf n k (drawBuffer q n k t i b)
+  drawnRows = rowsOf n k ((drawing q n k t) .leaves i b)
 
-  reduced : Reduced q n k (drawBuffer q n k t i b)
+  reduced : Reduced q n k ((drawing q n k t) .leaves i b)
   reduced = demand-3 s t settings known .listing .reduced i h b sized
 
   valid : All (Row q n) drawnRows
   valid = reduced-rows q n reduced
 
   pub drawn-rows-recovered : (cs : List Call)
-      → All (λ o. Among (o .row) (rowsOf n k (drawBuffer q n k t i b)) ⊎ (Row q n (o .row) → ⊥)) (offered cs)
-      → All (λ row. Among (offer row) (offered cs)) (rowsOf n k (drawBuffer q n k t i b))
-      → closeOf (after (begun s) cs) t ≡ Done (indexIn t i) (spaceOf n k (drawBuffer q n k t i b))
+      → All (λ o. Among (o .row) (rowsOf n k ((drawing q n k t) .leaves i b)) ⊎ (Row q n (o .row) → ⊥)) (offered cs)
+      → All (λ row. Among (offer row) (offered cs)) (rowsOf n k ((drawing q n k t) .leaves i b))
+      → closeOf (after (begun s) cs) t ≡ Done (indexIn t i) (spaceOf n k ((drawing q n k t) .leaves i b))
   unfolding HasVector
   drawn-rows-recovered cs only every =
       demand-3 s t settings known .recovery i h b sized cs
-      (all-map (λ v s. mixed-in-span q law n drawnRows valid v .1 s) inside) .typed _ (drawBuffer q n k t i b, reduced, same, refl)
+      (all-map (λ v s. mixed-in-span q law n drawnRows valid v .1 s) inside) .typed _ ((drawing q n k t) .leaves i b, reduced, same, refl)
     where
       inside : All (InSpan q n drawnRows) (accepted (begun s) cs)
       inside =
@@ -130,22 +131,22 @@ module _ (q n k t : ℕ) (settings : settingsRefusal q n k ≡ 0) (known : isNum
       same : SameSpan q n drawnRows (accepted (begun s) cs)
       same = span-same q law n drawnRows (accepted (begun s) cs) valid (accepted-rows s settings cs) outside inside
 
-  pub drawn-rows-taken : closeOf (after (begun s) (takeAll (rowsOf n k (drawBuffer q n k t i b)))) t
-      ≡ Done (indexIn t i) (spaceOf n k (drawBuffer q n k t i b))
+  pub drawn-rows-taken : closeOf (after (begun s) (takeAll (rowsOf n k ((drawing q n k t) .leaves i b)))) t
+      ≡ Done (indexIn t i) (spaceOf n k ((drawing q n k t) .leaves i b))
   drawn-rows-taken =
       drawn-rows-recovered (takeAll drawnRows)
       (all-offered (all-map (λ v a. inl a) (each-among drawnRows))) (all-map (λ v a. among-offered a) (each-among drawnRows))
 
-  pub drawn-bytes-received : receiveOf q n k t k (drawBuffer q n k t i b) ≡ Done (indexIn t i) (spaceOf n k (drawBuffer q n k t i b))
+  pub drawn-bytes-received : receiveOf q n k t k ((drawing q n k t) .leaves i b) ≡ Done (indexIn t i) (spaceOf n k ((drawing q n k t) .leaves i b))
   unfolding HasVector SameSpan
   drawn-bytes-received =
-      ap₂ (receiveOf q n k t) (sym (rows-length n k (drawBuffer q n k t i b)))
-      (sym (join-rows n k (drawBuffer q n k t i b) (reduced .size)))
+      ap₂ (receiveOf q n k t) (sym (rows-length n k ((drawing q n k t) .leaves i b)))
+      (sym (join-rows n k ((drawing q n k t) .leaves i b) (reduced .size)))
       ∙ demand-3 s t settings known .reception i h b sized drawnRows few
       (all-map (λ v s. mixed-in-span q law n drawnRows valid v .1 s) (span-each q law n drawnRows valid)) .typed _
-      (drawBuffer q n k t i b, reduced, λ v. Iff·rfl, refl)
+      ((drawing q n k t) .leaves i b, reduced, λ v. Iff·rfl, refl)
     where
       few : length drawnRows ≤ 64
       few =
           let a = settings-accepted q n k settings in
-          omega (arith, rows-length n k (drawBuffer q n k t i b), a .dimension, a .narrow)
+          omega (arith, rows-length n k ((drawing q n k t) .leaves i b), a .dimension, a .narrow)
