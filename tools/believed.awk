@@ -308,6 +308,7 @@ FILENAME ~ /\.roots$/ {
         settled[$2, $3] = $5 SUBSEP $6
         settles[$5, $6] = 1
     } else if ($1 == "rows" && NF == 4) rows[$2, $3] = $4
+    else if ($1 == "otherwise" && NF == 3) otherwise[$2, $3] = 1
     else {
         print "tools/believed.roots: not understood: " $0 >"/dev/stderr"
         status = 1
@@ -331,12 +332,15 @@ FILENAME == "README.md" {
     next
 }
 
+# The callers of the calls: the contract of each, and what its body calls.
 FILENAME ~ /crates\/clients\/.*\.rt$/ {
     line = $0
+    if (/^pub fn /) said = ""
+    if (/^    (ensures|requires|    )/) said = said clause($0)
     while (match(line, /[a-z_]+(::|\.)[a-z_]+\(/)) {
-        w[0] = substr(line, RSTART, RLENGTH - 1)
-        sub(/^.*(::|\.)/, "", w[0])
-        called[w[0]] = 1
+        name = substr(line, RSTART, RLENGTH - 1)
+        sub(/^.*(::|\.)/, "", name)
+        called[name] = called[name] SUBSEP said
         line = substr(line, RSTART + RLENGTH)
     }
     next
@@ -363,6 +367,7 @@ FILENAME ~ /\.rt$/ {
         if (note ~ /#\[no_mangle\]/ && FILENAME ~ /crates\/pandrwyg\//) call[++calls] = "pandrwyg::" name
         head[key] = within == "" ? "" : SUBSEP within
         open = "function"
+        ensuring = 0
     } else if (match(line, /^(pub )?(struct|enum|const) [A-Za-z_0-9]+/)) {
         name = substr(line, RSTART, RLENGTH)
         sub(/.* /, "", name)
@@ -380,6 +385,8 @@ FILENAME ~ /\.rt$/ {
     if (open != "") {
         text[key] = text[key] $0 "\n"
         if (line ~ /^ *requires /) asks[key] = 1
+        if (line ~ /^ *ensures /) ensuring = 1
+        if (ensuring) contract[key] = contract[key] clause(line)
         gsub(/[:&*<>]/, " ", line)
         uses[key] = uses[key] words(line)
         # a path, numbering::Index
@@ -443,6 +450,13 @@ function reach(key) {
     if (key in reached || !(key in text)) return
     reached[key] = 1
     queue[++tail] = key
+}
+
+# A line of a contract without its blanks; a method's caller has the receiver by that name.
+function clause(line) {
+    gsub(/[ \t]/, "", line)
+    gsub(/self/, "receiver", line)
+    return line
 }
 
 function fail(what) {
@@ -530,7 +544,10 @@ END {
         if (!((file, w[2]) in text)) fail("no such call: " call[i])
         if (!((file, w[2]) in root)) fail("a public call is no root: " call[i])
         if ((file, w[2]) in asks) fail("a public call has a requires: " call[i])
-        if (file ~ /lib\.rt$/ && !(w[2] in called)) fail("a public call has no caller in crates/clients: " call[i])
+        if (file !~ /lib\.rt$/) continue
+        if (!(w[2] in called)) fail("a public call has no caller in crates/clients: " call[i])
+        else if (!((file, w[2]) in otherwise) && !index(called[w[2]] SUBSEP, SUBSEP contract[file, w[2]] SUBSEP))
+            fail("its caller in crates/clients does not repeat the contract: " call[i])
     }
     if (calls < 10) fail("the calls of README.md are not found")
 

@@ -286,6 +286,8 @@ refusals =
     ∷ (pool leftPlane otherLength (lent 9) (lent 9) ⇒ (16 ∷ 0 ∷ 0 ∷ image zeros ++ (lent 9 ++ lent 9)))
     ∷ (pool leftPlane otherDimension (lent 9) (lent 9) ⇒ (16 ∷ 0 ∷ 0 ∷ image zeros ++ (lent 9 ++ lent 9)))
     ∷ (pool leftPlane rightPlane (lent 8) (lent 9) ⇒ (4 ∷ 0 ∷ 0 ∷ image zeros ++ (lent 8 ++ lent 9)))
+    ∷ (pool leftPlane rightPlane (lent 10) (lent 9) ⇒ (4 ∷ 0 ∷ 0 ∷ image zeros ++ (lent 10 ++ lent 9)))
+    ∷ (pool leftPlane rightPlane (lent 9) (lent 8) ⇒ (4 ∷ 0 ∷ 0 ∷ image zeros ++ (lent 9 ++ lent 8)))
     ∷ (pool leftPlane rightPlane (lent 9) (lent 10) ⇒ (4 ∷ 0 ∷ 0 ∷ image zeros ++ (lent 9 ++ lent 10)))
     ∷ (pool leftPlane rightPlane (lent 10) (lent 8) ⇒ (4 ∷ 0 ∷ 0 ∷ image zeros ++ (lent 10 ++ lent 8)))
     -- of two neighbours the first is told
