@@ -37,7 +37,7 @@ use Rattle.draw.specs.Draw.{drawRefusal, drawBuffer}
 use Rattle.draw_batch.specs.Batch.{batchRefusal, drawParts, drawAnswers, batchMatrices, batchAnswers}
 use Rattle.number.specs.Number.{entriesRefusal, numberRefusal, numberOf}
 use Rattle.convert.specs.Convert.{convertRefusal, convertOf}
-use Rattle.reduce.specs.Reduce.{reduceRefusal, reduceOf, reduceBuffer}
+use Rattle.reduce.specs.Reduce.{rowsSizeRefusal, rowListRefusal, reduceRefusal, reduceOf, reduceBuffer}
 use Rattle.receive.specs.Answer.{spaceRefusal, spaceAnswer}
 use Rattle.receive.specs.Receive.{rowsRefusal, receiveRefusal, receiveOf}
 use Rattle.receiver.specs.Receiver.{startOf, wellFormed, heldRows, holding, takeRefusal, takenIn, takeOf, closeRefusal, closeOf}
@@ -84,7 +84,7 @@ unfolding placeAfter bufferAfter listingOutput columnNames header linesFrom list
     insertResidue insertRow insertRows reducedRows join reducedOf dimension combinationAt combination InSpan SameSpan rowsOf
     HasDimension refuseUnless first unlessRefused isNumbering numberingOf choiceRefusal drawRefusal drawBuffer batchRefusal drawParts
     drawAnswers batchMatrices batchAnswers entriesRefusal
-    numberRefusal numberOf reduceRefusal reduceBuffer spaceAnswer
+    numberRefusal numberOf rowsSizeRefusal rowListRefusal reduceRefusal reduceBuffer spaceAnswer
     rowsRefusal receiveRefusal receiveOf allBelow sum sumRange value tabulate padded refusedWord refusedLine reduceOf convertRefusal
     convertOf startOf wellFormed heldRows holding takeRefusal takenIn takeOf closeRefusal closeOf bytesOf exportedRefusal
     exportedNumber exportedOf exportedBytes spaceRefusal jointOf jointDimension wide wideRows stacked rightHalves commonRows commonOf
