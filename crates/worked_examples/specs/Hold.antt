@@ -14,7 +14,7 @@ use Rattle.worked_examples.specs.Marked.{marked}
 use Rattle.worked_examples.specs.Readings.{readings}
 use Rattle.worked_examples.specs.Refusals.{refusals}
 use Rattle.counts.specs.Gaussian.{gaussian}
-use Rattle.settings.specs.Settings.{rowLengthOk, rangeOk, countOk, settingsRefusal, countOf}
+use Rattle.settings.specs.Settings.{rowLengthOk, rangeOk, countOk, settingsRefusal, listRefusal, countOf}
 use Rattle.field.specs.Polynomial.{times, remainder}
 use Rattle.field.specs.Field.{isFieldSize, isPolynomial, add, multiply, negate, leastFrom, invert}
 use Rattle.matrix.specs.Matrix.{leadFrom, lead, pivotAt, identifying, columnValue, entriesBelow, columnAlone, rowReduced, isReduced}
@@ -50,7 +50,7 @@ use Rattle.rows_text.specs.Rows.{rowText, rowsText}
 use Rattle.listing.specs.Line.{lineText}
 use Rattle.settings_line.specs.Decimal.{isDigit, digitRun, reading, isNumeral, decimalAt, markedAt}
 use Rattle.settings_line.specs.SettingsLine.{parsed}
-use Rattle.listing.specs.Listing.{listRefusal, listingLine, linesFrom, columnNames, header, refusedWord, refusedLine, listingOutput}
+use Rattle.listing.specs.Listing.{listingLine, linesFrom, columnNames, header, refusedWord, refusedLine, listingOutput}
 use Rattle.basics.specs.All.{allBelow}
 use Rattle.basics.specs.Sum.{sum, sumRange, value}
 use Rattle.basics.specs.Table.{tabulate}

@@ -1,14 +1,14 @@
--- `listing::list_refusal` meets its contract: the tests in their order, each passed or answered.
+-- `settings::list_refusal` meets its contract: the tests in their order, each passed or answered.
 use mathlib.Core.Path.{_≡_, _∙_, sym}
 use native.Mathlib.Omega.{arith}
 use Rattle.counts.specs.Gaussian.{gaussian}
 use Rattle.settings.specs.Settings.{settingsRefusal}
 use Rattle.settings.specs.laws.Accepted.{Accepted}
 use Rattle.settings.specs.laws.Accepted.{accepted, entry-of-accepted}
-use Rattle.listing.specs.laws.Listing.{list-settings, list-large, list-none}
+use Rattle.settings.specs.laws.Listable.{list-settings, list-large, list-none}
 use borrow.Author.Needs.{needs}
-use Rattle.listing.proofs.list_refusal.Statement.{statement}
-use Rattle.listing.proofs.list_refusal.Tie as tie
+use Rattle.settings.proofs.list_refusal.Statement.{statement}
+use Rattle.settings.proofs.list_refusal.Tie as tie
 
 settled : (c : tie.Else1) → settingsRefusal (c .before .before .args .q) (c .before .before .args .n) (c .before .before .args .k) ≡ 0
 settled c = sym (c .before .settings-refusal .ensures) ∙ c .if1 .left
