@@ -75,3 +75,15 @@ pub fn unrank(m: &mut [u8], q: u64, n: usize, k: usize, t: u64, index: u64) -> u
     }
     ferrers::unrank(m, q, n, k, FerrersIndex(index))
 }
+
+// The index, in the numbering `to`, of the matrix that has the given index in the numbering `from`. Every matrix that is drawn is reduced,
+// so it has one, and nothing is left to refuse.
+pub fn counterpart(q: u64, n: usize, k: usize, from: u64, to: u64, index: u64) -> Index
+    requires { ⌜ Accepted q n k × (index < gaussian q n k) ⌝ }
+    ensures { λ r. ⌜ r ≡ indexIn to (indexOf q n k to (drawn q n k from index)) ⌝ }
+{
+    let mut entries = [0u8; 256];
+    let size = k * n;
+    let vector = unrank(&mut entries[..size], q, n, k, from, index);
+    rank(&entries[..size], q, n, k, to, vector)
+}

@@ -1,4 +1,4 @@
--- `convert::counterpart` meets its contract: the part of the local array that is drawn into is the drawn matrix, which is reduced, and so
+-- `numbering::counterpart` meets its contract: the part of the local array that is drawn into is the drawn matrix, which is reduced, and so
 -- has an index in the other numbering.
 use mathlib.Core.Path.{_≡_, _∙_, ap, sym, subst}
 use mathlib.Core.List.{List, _++_}
@@ -9,11 +9,11 @@ use lib.ListN.{length, take, drop, replicate, length-take, length-append}
 use lib.Seq.{take-at}
 use Rattle.settings.specs.laws.Accepted.{not-refused}
 use Rattle.matrix.specs.Matrix.{Reduced, identifying}
 use Rattle.numbering.specs.Numbering.{indexOf, indexIn, drawn}
 use Rattle.numbering.specs.laws.Chosen.{accepted-bytes}
 use Rattle.numbering.specs.laws.Either.{either}
-use Rattle.convert.proofs.counterpart.Statement.{statement}
-use Rattle.convert.proofs.counterpart.Tie as tie
+use Rattle.numbering.proofs.counterpart.Statement.{statement}
+use Rattle.numbering.proofs.counterpart.Tie as tie
 
 short : (c : tie.Start) → c .args .k * c .args .n ≤ 256
 short c = accepted-bytes _ _ _ (c .pre .0)
