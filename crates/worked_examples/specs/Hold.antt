@@ -29,7 +29,7 @@ use Rattle.ferrers.specs.Ferrers.{diagramTerm, diagramPlace, largerDiagrams, fe
 use Rattle.ferrers.specs.Drawn.{diagramShape, sizedShape, ferrersShape, drawnFerrers}
 use Rattle.ferrers.specs.laws.ShapeRank.{shapeSize, shapePlace, shapeTableau, ferrersRank}
 use Rattle.linear.specs.Eliminate.{leadOf, eliminate, residue, monic, putAmong, insertResidue, insertRow, insertRows, reducedRows, join}
-use Rattle.linear.specs.Eliminate.{reducedOf, dimension}
+use Rattle.linear.specs.Eliminate.{inSpan, reducedOf, dimension}
 use Rattle.linear.specs.Span.{combinationAt, combination, InSpan, SameSpan, rowsOf, HasDimension}
 use Rattle.refusal.specs.Refusal.{refuseUnless, first, unlessRefused}
 use Rattle.numbering.specs.Numbering.{isNumbering, numberingOf, choiceRefusal}
@@ -81,7 +81,7 @@ unfolding placeAfter bufferAfter listingOutput columnNames header linesFrom list
     extendedColumn extendedBefore extendedRank extendedShape drawnExtended partitionsRow partitions freeFrom freeColumns dots diagram
     total size dottedFrom tableauOf tableau tableauValue diagramTerm diagramPlace largerDiagrams ferrersIndex shapeSize boxCount
     shapePlace shapeTableau ferrersRank diagramShape sizedShape ferrersShape drawnFerrers leadOf eliminate residue monic putAmong
-    insertResidue insertRow insertRows reducedRows join reducedOf dimension combinationAt combination InSpan SameSpan rowsOf
+    insertResidue insertRow insertRows reducedRows join reducedOf inSpan dimension combinationAt combination InSpan SameSpan rowsOf
     HasDimension refuseUnless first unlessRefused isNumbering numberingOf choiceRefusal drawRefusal drawBuffer batchRefusal drawParts
     drawAnswers batchMatrices batchAnswers entriesRefusal
     numberRefusal numberOf rowsSizeRefusal rowListRefusal reduceRefusal reduceBuffer spaceAnswer
