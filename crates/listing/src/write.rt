@@ -51,8 +51,15 @@ fn write_space(buffer: &mut [u8], q: u64, n: u64, k: u64, index: ExtendedIndex) 
 {
     let mut entries = [0u8; 256];
     let size = (k * n) as usize;
-    let vector = extended::unrank(&mut entries[..size], q, n as usize, k as usize, index);
-    let ferrers = ferrers::rank(&entries[..size], q, n as usize, k as usize, vector);
+    let found = numbering::unrank_indexes(
+        &mut entries[..size],
+        q,
+        n as usize,
+        k as usize,
+        numbering::EXTENDED,
+        index.0,
+    );
+    let ferrers = found.ferrers;
     let rows = Rows {
         entries,
         n: n as usize,

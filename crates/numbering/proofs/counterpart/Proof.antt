@@ -1,17 +1,15 @@
--- `numbering::counterpart` meets its contract: the part of the local array that is drawn into is the drawn matrix, which is reduced, and so
--- has an index in the other numbering.
-use mathlib.Core.Path.{_≡_, _∙_, ap, sym, subst}
-use mathlib.Core.List.{List, _++_}
+-- `numbering::counterpart` meets its contract: the part of the local array that is drawn into is as long as the matrix, and its indexes are
+-- those of the drawn matrix.
+use mathlib.Core.Path.{_≡_, _∙_, ap, sym}
+use mathlib.Core.List.{List}
 use Prim.Native.Nat.{ℕ, _*_, _≤_}
 use native.Mathlib.Nat.{min-eq-left}
 use native.Mathlib.Omega.{arith}
-use lib.ListN.{length, take, drop, replicate, length-take, length-append}
-use lib.Seq.{take-at}
-use Rattle.settings.specs.laws.Accepted.{not-refused}
-use Rattle.matrix.specs.Matrix.{Reduced, identifying}
-use Rattle.numbering.specs.Numbering.{indexOf, indexIn, drawn}
+use lib.ListN.{length, take, replicate, length-take}
+use Rattle.numbering.specs.Numbering.{drawn}
+use Rattle.numbering.specs.declared.Index.the-variants.{Extended, Ferrers}
 use Rattle.numbering.specs.laws.Chosen.{accepted-bytes}
-use Rattle.numbering.specs.laws.Either.{either}
+use Rattle.numbering.specs.laws.Either.{is-extended, is-ferrers}
 use Rattle.numbering.proofs.counterpart.Statement.{statement}
 use Rattle.numbering.proofs.counterpart.Tie as tie
 
@@ -25,73 +23,43 @@ part : (size : ℕ) → size ≤ 256 → length (take size zeros) ≡ size
 unfolding zeros
 part size h = length-take size zeros ∙ min-eq-left h
 
--- the array after the drawing
-array : tie.After-unrank → List ℕ
-array c = let a = c .before .before .args in c .unrank .last .0 ++ drop (a .k * a .n) zeros
-
-filled : (c : tie.After-unrank) → let a = c .before .before .args in length (c .unrank .last .0) ≡ a .k * a .n
-unfolding zeros
-filled c = c .unrank .kept .0 ∙ part _ (short (c .before .before))
-
--- the drawn matrix at its front
-front : (c : tie.After-unrank) → let a = c .before .before .args in
-    take (a .k * a .n) (array c) ≡ drawn (a .q) (a .n) (a .k) (a .from) (a .index)
-unfolding array
-front c = take-at (c .unrank .last .0) _ _ (filled c) ∙ c .unrank .ensures .0
-
-reduced : (c : tie.After-unrank) → let a = c .before .before .args in Reduced (a .q) (a .n) (a .k) (take (a .k * a .n) (array c))
-reduced c =
-    let s = c .before .before in
-    let a = s .args in
-    subst (Reduced (a .q) (a .n) (a .k)) (sym (front c))
-    (either (a .q) (a .n) (a .k) (a .from) (not-refused _ _ _ (s .pre .0)) .drawn-reduced (a .index) (s .pre .1))
-
-mul-size : tie.Need-mul-size
-mul-size c = omega (arith, short c)
+mul-entries : tie.Need-mul-entries
+mul-entries c = omega (arith, short c)
 
 array-borrow-prefix-entries : tie.Need-array-borrow-prefix-entries
 array-borrow-prefix-entries c = short c
 
-slice-aggregate-unrank : tie.Need-slice-aggregate-unrank
+slice-aggregate-unrank-indexes : tie.Need-slice-aggregate-unrank-indexes
 unfolding zeros
-slice-aggregate-unrank c = sym (part _ (short (c .before)))
+slice-aggregate-unrank-indexes c = sym (part _ (short (c .before)))
 
-unrank-requires : tie.Need-unrank-requires
+unrank-indexes-requires : tie.Need-unrank-indexes-requires
 unfolding zeros
-unrank-requires c κs = let s = c .before in (s .pre .0, s .pre .1, part _ (short s))
-
-array-share-prefix-entries : tie.Need-array-share-prefix-entries
-unfolding zeros
-array-share-prefix-entries c = rw (length-append _ (drop _ zeros)) (omega (arith, filled (c .before)))
-
-slice-aggregate-rank : tie.Need-slice-aggregate-rank
-unfolding array zeros
-slice-aggregate-rank c = sym (reduced (c .before .before) .size)
-
-rank-requires : tie.Need-rank-requires
-unfolding array zeros
-rank-requires c κs =
-    let f = c .before .before in
-    let s = f .before .before in
-    let a = s .args in
-    (s .pre .0, reduced f, f .unrank .ensures .1 ∙ ap (identifying (a .n) (a .k)) (sym (front f)))
+unrank-indexes-requires c κs = let s = c .before in (s .pre .0, s .pre .1, part _ (short s))
 
 returns : tie.Need-returns
-unfolding array zeros
 returns c =
-    let f = c .before .before .before in
-    let a = f .before .before .args in
-    c .rank .ensures ∙ ap (λ m. indexIn (a .to) (indexOf (a .q) (a .n) (a .k) (a .to) m)) (front f)
+    let u = c .before .before .before in
+    let a = u .before .before .args in
+    let m = drawn (a .q) (a .n) (a .k) (a .from) (a .index) in
+    ap (λ i. Extended (record { 0 = i })) (u .unrank-indexes .ensures .1 .0)
+    ∙ ap (λ N. N .typed (N .index (a .q) (a .n) (a .k) m)) (is-extended (a .to) (c .before .if1 .taken))
+
+returns-2 : tie.Need-returns-2
+returns-2 c =
+    let u = c .before .before .before in
+    let a = u .before .before .args in
+    let m = drawn (a .q) (a .n) (a .k) (a .from) (a .index) in
+    ap (λ i. Ferrers (record { 0 = i })) (u .unrank-indexes .ensures .1 .1)
+    ∙ ap (λ N. N .typed (N .index (a .q) (a .n) (a .k) m)) (is-ferrers (a .to) (c .before .if1 .left))
 
 pub counterpart-spec : {M : Type 1} → statement M
 counterpart-spec =
     tie.close
     (tie.spec
-    mul-size
+    mul-entries
     array-borrow-prefix-entries
-    slice-aggregate-unrank
-    unrank-requires
-    array-share-prefix-entries
-    slice-aggregate-rank
-    rank-requires
-    returns)
+    slice-aggregate-unrank-indexes
+    unrank-indexes-requires
+    returns
+    returns-2)
