@@ -47,10 +47,10 @@ pub fn list_refusal(q: u64, n: u64, k: u64) -> u32
     if settings != 0 {
         return settings;
     }
-    if GREATEST_LISTING < counts::coefficient(q, n, k) {
-        return refusal::LISTING;
+    if counts::coefficient(q, n, k) <= GREATEST_LISTING {
+        return 0;
     }
-    0
+    refusal::LISTING
 }
 
 // Count: the number of spaces. Refuses 1, 2, 3.

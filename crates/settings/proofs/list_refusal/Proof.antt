@@ -31,10 +31,10 @@ coefficient-requires : tie.Need-coefficient-requires
 coefficient-requires c κs = let a = lawful c in (a .size, a .narrow, omega (arith, a .dimension, a .narrow))
 
 returns-2 : tie.Need-returns-2
-returns-2 c = sym (list-large _ _ _ (settled (c .before .before)) (rw (counted (c .before)) at (c .if2 .taken)))
+returns-2 c = sym (list-none _ _ _ (settled (c .before .before)) (rw (counted (c .before)) at (c .if2 .taken)))
 
 returns-3 : tie.Need-returns-3
-returns-3 c = sym (list-none _ _ _ (settled (c .before .before)) (rw (counted (c .before)) at (c .if2 .left)))
+returns-3 c = sym (list-large _ _ _ (settled (c .before .before)) (rw (counted (c .before)) at (c .if2 .left)))
 
 pub list-refusal-spec : {M : Type 1} → statement M
 list-refusal-spec =
