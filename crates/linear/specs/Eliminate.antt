@@ -3,6 +3,7 @@
 --   leadOf n r          == the place of the row r's first nonzero entry; n where r is zero
 --   eliminate q n r v   == v less the multiple of r that makes v zero at r's lead
 --   residue q n rs v    == v after eliminating with each row of rs
+--   inSpan q n rs v     == the residue of v is zero; for reduced rows rs, v is in their span exactly there (laws.InSpan, in-span-exactly)
 --   monic q n v         == v scaled so that its first nonzero entry is 1
 --   putAmong q n rs w   == w put among the rows rs in the order of leads, w's lead cleared in the rows above
 --   insertRow q n rs v  == the reduced rows rs with v taken in
@@ -10,6 +11,7 @@
 --   dimension q n rows  == its number of rows
 --   join rows           == the bytes of the rows, one row after the other
 -- Assumes nothing.
+use mathlib.Core.Bool.{Bool}
 use mathlib.Core.List.{List, [], _∷_, _++_}
 use Prim.Native.Nat.{ℕ}
 use lib.Dec.{eqb, ltb}
@@ -28,6 +30,9 @@ eliminate q n r v = tabulate (λ j. add q (getD v j 0) (multiply q (negate q (ge
 unfoldable pub residue : ℕ → ℕ → List (List ℕ) → List ℕ → List ℕ
 residue q n [] v = v
 residue q n (r ∷ rs) v = residue q n rs (eliminate q n r v)
+
+unfoldable pub inSpan : ℕ → ℕ → List (List ℕ) → List ℕ → Bool
+inSpan q n rs v = eqb (leadOf n (residue q n rs v)) n
 
 unfoldable pub monic : ℕ → ℕ → List ℕ → List ℕ
 monic q n v = tabulate (λ j. multiply q (invert q (getD v (leadOf n v) 0)) (getD v j 0)) 0 n

@@ -1,8 +1,6 @@
 -- What the list program writes. Document 01: "List, the program: 11 if the input isn't one line `q,n,k` ..; 1, 2, 3; 12 if N exceeds
 -- 65,536. A refusal prints one line, `refused,` and the number, ended by a line feed." "Fields: extended index, Ferrers index, rows as
 -- digits with `/` between rows. Lines rise by extended index."
---   greatestListing        == 65,536
---   listRefusal q n k      == the first of 1, 2, 3, 12 that applies, else 0
 --   listingLine q n k i    == the line of the space with the extended index i
 --   linesFrom q n k i m    == the lines of the m extended indexes from i on, rising
 --   columnNames, header     == "extended,ferrers,rows"; this and a line feed
@@ -12,10 +10,10 @@
 use mathlib.Core.Bool.{true, false}
 use mathlib.Core.List.{List, [], _∷_, _++_}
 use Prim.Native.Nat.{ℕ, zero, suc}
-use lib.Dec.{leb, eqb}
-use Rattle.refusal.specs.Refusal.{lineRefusal, listingRefusal, refuseUnless, first}
+use lib.Dec.{eqb}
+use Rattle.refusal.specs.Refusal.{lineRefusal}
 use Rattle.counts.specs.Gaussian.{gaussian}
-use Rattle.settings.specs.Settings.{settingsRefusal}
+use Rattle.settings.specs.Settings.{listRefusal}
 use Rattle.extended.specs.Drawn.{drawnExtended}
 use Rattle.ferrers.specs.Ferrers.{ferrersIndex}
 use Rattle.text.specs.Text.{comma, lineFeed, numeral}
@@ -23,12 +21,6 @@ use Rattle.settings_line.specs.SettingsLine.{parsed}
 use Rattle.settings_line.specs.declared.Parsed.{Parsed}
 use Rattle.settings_line.specs.declared.Parsed.the-variants.{Settings as settings, Malformed}
 use Rattle.listing.specs.Line.{lineText}
-
-abbrev pub greatestListing : ℕ
-greatestListing = 65536
-
-unfoldable pub listRefusal : ℕ → ℕ → ℕ → ℕ
-listRefusal q n k = first (settingsRefusal q n k ∷ refuseUnless (leb (gaussian q n k) greatestListing) listingRefusal ∷ [])
 
 unfoldable pub listingLine : ℕ → ℕ → ℕ → ℕ → List ℕ
 listingLine q n k i = lineText i (ferrersIndex q n k (drawnExtended q n k i)) n k (drawnExtended q n k i)

@@ -19,6 +19,8 @@ use borrow.Author.Tests.{eqb-true}
 use lib.Dec.{eqb}
 use lib.ListN.{length, take, length-append}
 use Rattle.counts.specs.Gaussian.{gaussian}
+use Rattle.settings.specs.Settings.{listRefusal}
+use Rattle.settings.specs.laws.Listable.{listable}
 use Rattle.settings_line.specs.SettingsLine.{decisive, parsed}
 use Rattle.settings_line.specs.Theorems.{parsed-bounded}
 use Rattle.settings_line.specs.declared.Parsed.{Parsed}
@@ -26,9 +28,9 @@ use Rattle.settings_line.specs.declared.Parsed.the-variants.{Settings as settin
 use Rattle.text.specs.Piece.{fits}
 use Rattle.text.specs.Theorems.{piece-fits}
 use Rattle.listing.specs.Line.{lineRoom, longestLine}
-use Rattle.listing.specs.Listing.{listRefusal, listingLine, linesFrom, columnNames, header, refusedWord, refusedLine, outputFor}
+use Rattle.listing.specs.Listing.{listingLine, linesFrom, columnNames, header, refusedWord, refusedLine, outputFor}
 use Rattle.listing.specs.Listing.{listingOutput}
-use Rattle.listing.specs.laws.Listing.{listable, lines-append}
+use Rattle.listing.specs.laws.Listing.{lines-append}
 use Rattle.listing.specs.laws.Line.{line-short, line-nonempty}
 use Rattle.listing.specs.laws.Steps.{countOf, live-is, end-within, remaining-live, remaining-dead, remaining-from, chunk-live}
 use Rattle.listing.specs.laws.Steps.{chunk-dead, next-live, next-dead, past-dead}

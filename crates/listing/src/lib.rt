@@ -4,7 +4,6 @@ mod write;
 ghost use mathlib.Core.Path.{_≡_};
 ghost use Prim.Native.Nat.{_≤_};
 ghost use lib.ListN.{length};
-ghost use Rattle.listing.specs.Listing.{listRefusal};
 ghost use Rattle.listing.specs.Steps.{chunkSize, linesEnd, begun, linesChunk, linesNext, chunkOf, nextState};
 ghost use Rattle.listing.specs.Front.{written};
 use extended::ExtendedIndex;
@@ -27,9 +26,6 @@ pub enum State {
     Done,
 }
 
-// Document 01: "12 if N exceeds 65,536".
-const GREATEST_LISTING: u64 = 65536;
-
 // The lines of a chunk, and the bytes that a chunk is lent: 320 for each line.
 const CHUNK_LINES: u64 = 64;
 
@@ -37,20 +33,6 @@ pub const CHUNK_SIZE: usize = 20480;
 
 // So many steps end every listing: the header, 1,024 chunks of lines, and the empty chunk that ends it.
 pub const MOST_STEPS: u64 = 1026;
-
-// The first of the refusals 1, 2, 3, 12 that applies to the settings; 0 where none does.
-pub fn list_refusal(q: u64, n: u64, k: u64) -> u32
-    ensures { λ r. ⌜ r ≡ listRefusal q n k ⌝ }
-{
-    let settings = settings::settings_refusal(q, n, k);
-    if settings != 0 {
-        return settings;
-    }
-    if GREATEST_LISTING < counts::coefficient(q, n, k) {
-        return refusal::LISTING;
-    }
-    0
-}
 
 // The state in which the program begins, by its input. The first 13 bytes decide.
 pub fn begin(input: &[u8]) -> State
@@ -60,7 +42,7 @@ pub fn begin(input: &[u8]) -> State
     let Parsed::Settings(settings) = found else {
         return State::Refused(refusal::LINE);
     };
-    let refusal = list_refusal(settings.q, settings.n, settings.k);
+    let refusal = settings::list_refusal(settings.q, settings.n, settings.k);
     if refusal != 0 {
         return State::Refused(refusal);
     }
@@ -94,7 +76,7 @@ fn lines_step(progress: Progress, chunk: &mut [u8]) -> Stepped
     let n = progress.n;
     let k = progress.k;
     let index = progress.index;
-    if list_refusal(q, n, k) != 0 {
+    if settings::list_refusal(q, n, k) != 0 {
         return Stepped {
             state: State::Done,
             size: 0,

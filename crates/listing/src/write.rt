@@ -3,12 +3,12 @@ ghost use mathlib.Core.Path.{_≡_};
 ghost use Prim.Native.Nat.{_-_, _≤_, _<_};
 ghost use lib.ListN.{length};
 ghost use Rattle.counts.specs.Gaussian.{gaussian};
+ghost use Rattle.settings.specs.laws.Listable.{Listable};
 ghost use Rattle.text.specs.Word.{letters};
 ghost use Rattle.listing.specs.Front.{written};
 ghost use Rattle.listing.specs.Line.{lineRoom};
 ghost use Rattle.listing.specs.Listing.{header, refusedLine, listingLine, linesFrom};
 ghost use Rattle.listing.specs.Steps.{chunkLines, chunkSize};
-ghost use Rattle.listing.specs.laws.Listing.{Listable};
 ghost use Rattle.listing.specs.laws.Line.{wordLine};
 use extended::ExtendedIndex;
 use rows_text::Rows;
@@ -51,8 +51,15 @@ fn write_space(buffer: &mut [u8], q: u64, n: u64, k: u64, index: ExtendedIndex) 
 {
     let mut entries = [0u8; 256];
     let size = (k * n) as usize;
-    let vector = extended::unrank(&mut entries[..size], q, n as usize, k as usize, index);
-    let ferrers = ferrers::rank(&entries[..size], q, n as usize, k as usize, vector);
+    let found = numbering::unrank_indexes(
+        &mut entries[..size],
+        q,
+        n as usize,
+        k as usize,
+        numbering::EXTENDED,
+        index.0,
+    );
+    let ferrers = found.ferrers;
     let rows = Rows {
         entries,
         n: n as usize,

@@ -5,6 +5,8 @@ ghost use lib.ListN.{length};
 ghost use Rattle.counts.specs.Gaussian.{gaussian};
 ghost use Rattle.settings.specs.laws.Accepted.{Accepted};
 ghost use Rattle.matrix.specs.Matrix.{identifying, Reduced};
+ghost use Rattle.extended.specs.Extended.{extendedIndex};
+ghost use Rattle.ferrers.specs.Ferrers.{ferrersIndex};
 ghost use Rattle.numbering.specs.Numbering.{isNumbering, choiceRefusal, indexIn, indexOf, drawn};
 use extended::ExtendedIndex;
 use ferrers::FerrersIndex;
@@ -74,4 +76,48 @@ pub fn unrank(m: &mut [u8], q: u64, n: usize, k: usize, t: u64, index: u64) -> u
         return extended::unrank(m, q, n, k, ExtendedIndex(index));
     }
     ferrers::unrank(m, q, n, k, FerrersIndex(index))
+}
+
+// The indexes of a space, one in each numbering.
+pub struct Indexes {
+    pub extended: ExtendedIndex,
+    pub ferrers: FerrersIndex,
+}
+
+// Writes the reduced matrix with the given index of the numbering t, and answers its index in either numbering. Every matrix that is drawn
+// is reduced, so it has both, and nothing is left to refuse.
+pub fn unrank_indexes(m: &mut [u8], q: u64, n: usize, k: usize, t: u64, index: u64) -> Indexes
+    requires { ⌜ Accepted q n k × (index < gaussian q n k) × (length (now m) ≡ k * n) ⌝ }
+    ensures { λ _. ⌜ now (m .exit) ≡ drawn q n k t index ⌝ }
+    ensures { λ r. ⌜ (r .extended .0 ≡ extendedIndex q n k (drawn q n k t index))
+        × (r .ferrers .0 ≡ ferrersIndex q n k (drawn q n k t index)) ⌝ }
+{
+    let vector = unrank(m, q, n, k, t, index);
+    if t == EXTENDED {
+        let ferrers = ferrers::rank(m, q, n, k, vector);
+        return Indexes {
+            extended: ExtendedIndex(index),
+            ferrers,
+        };
+    }
+    let extended = extended::rank(m, q, n, k, vector);
+    Indexes {
+        extended,
+        ferrers: FerrersIndex(index),
+    }
+}
+
+// The index, in the numbering `to`, of the matrix that has the given index in the numbering `from`.
+pub fn counterpart(q: u64, n: usize, k: usize, from: u64, to: u64, index: u64) -> Index
+    requires { ⌜ Accepted q n k × (index < gaussian q n k) ⌝ }
+    ensures { λ r. ⌜ r ≡ indexIn to (indexOf q n k to (drawn q n k from index)) ⌝ }
+{
+    let mut entries = [0u8; 256];
+    let found = unrank_indexes(&mut entries[..k * n], q, n, k, from, index);
+    if to == EXTENDED {
+        let extended = found.extended;
+        return Index::Extended(extended);
+    }
+    let ferrers = found.ferrers;
+    Index::Ferrers(ferrers)
 }

@@ -6,29 +6,21 @@
 --   receiveOf      == what Receive answers
 -- Assumes nothing.
 use mathlib.Core.List.{List, [], _∷_}
-use Prim.Native.Nat.{ℕ, _*_}
-use lib.Dec.{eqb, leb}
-use lib.ListN.{length}
-use Rattle.refusal.specs.Refusal.{lengthRefusal, entryRefusal, rowCountRefusal, refuseUnless, first, unlessRefused}
-use Rattle.matrix.specs.Matrix.{entriesBelow}
+use Prim.Native.Nat.{ℕ}
+use Rattle.refusal.specs.Refusal.{first, unlessRefused}
 use Rattle.linear.specs.Span.{rowsOf}
 use Rattle.linear.specs.Eliminate.{reducedOf, dimension}
 use Rattle.numbering.specs.Numbering.{choiceRefusal}
-use Rattle.reduce.specs.Reduce.{mostRows}
+use Rattle.reduce.specs.Reduce.{rowsSizeRefusal, rowListRefusal}
 use Rattle.receive.specs.Answer.{spaceAnswer}
 use Rattle.receive.specs.declared.Received.{Received}
 use Rattle.receive.specs.declared.Received.the-variants.{Refused}
 
 unfoldable pub rowsRefusal : ℕ → ℕ → ℕ → ℕ → ℕ → ℕ → ℕ
-rowsRefusal q n k t r size =
-    first
-    (choiceRefusal q n k t
-    ∷ refuseUnless (leb r mostRows) rowCountRefusal
-    ∷ refuseUnless (eqb size (r * n)) lengthRefusal
-    ∷ [])
+rowsRefusal q n k t r size = first (choiceRefusal q n k t ∷ rowsSizeRefusal n r size ∷ [])
 
 unfoldable pub receiveRefusal : ℕ → ℕ → ℕ → ℕ → ℕ → List ℕ → ℕ
-receiveRefusal q n k t r input = first (rowsRefusal q n k t r (length input) ∷ refuseUnless (entriesBelow q input) entryRefusal ∷ [])
+receiveRefusal q n k t r input = first (choiceRefusal q n k t ∷ rowListRefusal q n r input ∷ [])
 
 abbrev pub reducedAnswer : ℕ → ℕ → ℕ → ℕ → ℕ → List ℕ → Received
 reducedAnswer q n k t r input = spaceAnswer q n k t (dimension q n (rowsOf n r input)) (reducedOf q n (rowsOf n r input))

@@ -46,13 +46,18 @@ pub fn rows_refusal(q: u64, n: u64, k: u64, t: u64, row_count: u64, size: usize)
     if choice != 0 {
         return choice;
     }
-    if reduce::MOST_ROWS < row_count {
-        return refusal::ROW_COUNT;
+    reduce::rows_size_refusal(n, row_count, size)
+}
+
+// The first refusal of Receive that applies, but for 8 and 9; 0 where none does.
+fn receive_refusal(q: u64, n: u64, k: u64, t: u64, row_count: u64, rows: &[u8]) -> u32
+    ensures { λ r. ⌜ r ≡ receiveRefusal q n k t «row_count» (now (rows .entry)) ⌝ }
+{
+    let choice = numbering::choice_refusal(q, n, k, t);
+    if choice != 0 {
+        return choice;
     }
-    if size as u64 != row_count * n {
-        return refusal::LENGTH;
-    }
-    0
+    reduce::row_list_refusal(q, n, row_count, rows)
 }
 
 // The answer for rows that are not refused: they are reduced, and the reduced matrix is numbered.
@@ -74,12 +79,9 @@ pub fn receive(q: u64, n: u64, k: u64, t: u64, row_count: u64, rows: &[u8]) -> R
     ensures { λ r. ⌜ Told q n k t (dimensionOf q n (rowsOf n «row_count» (now (rows .entry))))
         (reducedOf q n (rowsOf n «row_count» (now (rows .entry)))) (receiveRefusal q n k t «row_count» (now (rows .entry))) r ⌝ }
 {
-    let refusal = rows_refusal(q, n, k, t, row_count, rows.len());
+    let refusal = receive_refusal(q, n, k, t, row_count, rows);
     if refusal != 0 {
         return Received::Refused(refusal);
-    }
-    if !matrix::entries_below(rows, q) {
-        return Received::Refused(refusal::ENTRY);
     }
     reduced_answer(q, n, k, t, row_count, rows)
 }

@@ -9,11 +9,40 @@ ghost use Rattle.matrix.specs.Matrix.{entriesBelow, identifying};
 ghost use Rattle.linear.specs.Span.{rowsOf};
 ghost use Rattle.linear.specs.Eliminate.{reducedOf, dimension as dimensionOf};
 ghost use Rattle.reduction.specs.Padded.{padded};
-ghost use Rattle.reduce.specs.Reduce.{spaceOf, reduceRefusal, reduceOf, reduceBuffer};
+ghost use Rattle.reduce.specs.Reduce.{rowsSizeRefusal, rowListRefusal, spaceOf, reduceRefusal, reduceOf, reduceBuffer};
 ghost use Rattle.reduce.specs.Reduce.{reductionNumber, reductionDimension, reductionVector};
 
 // The most rows that a call takes in.
 pub const MOST_ROWS: u64 = 64;
+
+// The first of the refusals 13 and 4 that applies to `row_count` rows of n entries in `size` bytes; 0 where neither does.
+pub fn rows_size_refusal(n: u64, row_count: u64, size: usize) -> u32
+    requires { ⌜ n ≤ 16 ⌝ }
+    ensures { λ r. ⌜ r ≡ rowsSizeRefusal n «row_count» size ⌝ }
+{
+    if MOST_ROWS < row_count {
+        return refusal::ROW_COUNT;
+    }
+    if size as u64 != row_count * n {
+        return refusal::LENGTH;
+    }
+    0
+}
+
+// The first of the refusals 13, 4 and 6 that applies to a list of `row_count` rows of n entries; 0 where none does.
+pub fn row_list_refusal(q: u64, n: u64, row_count: u64, rows: &[u8]) -> u32
+    requires { ⌜ n ≤ 16 ⌝ }
+    ensures { λ r. ⌜ r ≡ rowListRefusal q n «row_count» (now (rows .entry)) ⌝ }
+{
+    let refusal = rows_size_refusal(n, row_count, rows.len());
+    if refusal != 0 {
+        return refusal;
+    }
+    if !matrix::entries_below(rows, q) {
+        return refusal::ENTRY;
+    }
+    0
+}
 
 // What is told of the span of some rows: its dimension, and the identifying vector of its reduced matrix.
 pub struct Space {
@@ -37,11 +66,9 @@ fn reduce_refusal(q: u64, n: u64, row_count: u64, rows: &[u8], size: usize) -> u
     if !settings::row_length_ok(n) {
         return refusal::RANGE;
     }
-    if MOST_ROWS < row_count {
-        return refusal::ROW_COUNT;
-    }
-    if rows.len() as u64 != row_count * n {
-        return refusal::LENGTH;
+    let rows_refusal = rows_size_refusal(n, row_count, rows.len());
+    if rows_refusal != 0 {
+        return rows_refusal;
     }
     if size as u64 != n * n {
         return refusal::LENGTH;

@@ -5,6 +5,7 @@ pub mod Residue
 pub mod PutAmong
 pub mod ClearAbove
 pub mod Leads
+pub mod InSpan
 pub mod InsertResidue
 pub mod Insert
 pub mod InsertRows

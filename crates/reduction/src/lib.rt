@@ -6,7 +6,7 @@ ghost use lib.Dec.{T};
 ghost use lib.ListN.{length, getD, take, drop, replicate};
 ghost use Rattle.field.specs.Field.{isFieldSize};
 ghost use Rattle.linear.specs.Span.{All, Row, rowsOf};
-ghost use Rattle.linear.specs.Eliminate.{leadOf, residue as residueOf};
+ghost use Rattle.linear.specs.Eliminate.{leadOf, eliminate as eliminated, residue as residueOf, inSpan};
 ghost use Rattle.linear.specs.Eliminate.{putAmong, insertRow, insertRows, join};
 ghost use Rattle.linear.specs.laws.InsertMany.{Kept};
 ghost use Rattle.reduction.specs.Padded.{padded};
@@ -139,4 +139,42 @@ pub fn insert_rows(
         i += 1;
     }
     held
+}
+
+// Copies `row` to the front of `work`, and takes from the row behind it the multiple that makes that row zero at p, the lead of `row`.
+fn take_off(q: u64, n: usize, p: usize, row: &[u8], work: &mut [u8])
+    requires { ⌜ T (isFieldSize q) × (p < n) × Row q n (now row) × Row q n (part n n (now work)) × (n + n ≤ length (now work)) ⌝ }
+    requires { ⌜ p ≡ leadOf n (now row) ⌝ }
+    ensures { λ _. ⌜ now (work .exit)
+        ≡ put n n (eliminated q n (now (row .entry)) (part n n (now (work .entry)))) (put n 0 (now (row .entry)) (now (work .entry))) ⌝ }
+{
+    basics::copy(row, work, 0);
+    rows::eliminate(q, n, p, work, 0, n);
+}
+
+// Eliminates the second row of `work` with each of the d reduced rows of m, whose leads `pivots` holds.
+fn take_off_rows(q: u64, n: usize, d: usize, m: &[u8], pivots: &[u8], work: &mut [u8])
+    requires { ⌜ T (isFieldSize q) × (d * n ≤ length (now m)) × Kept q n (rowsOf n d (now m)) × Row q n (part n n (now work))
+        × (n + n ≤ length (now work)) ⌝ }
+    requires { ⌜ (d ≤ length (now pivots)) × (take d (now pivots) ≡ leads n (rowsOf n d (now m))) ⌝ }
+    ensures { λ _. ⌜ part n n (now (work .exit)) ≡ residueOf q n (rowsOf n d (now (m .entry))) (part n n (now (work .entry))) ⌝ }
+{
+    let mut i = 0;
+    while i < d {
+        let from = i * n;
+        take_off(q, n, pivots[i] as usize, &m[from..from + n], work);
+        i += 1;
+    }
+}
+
+// Whether `row` is in the span of the d reduced rows of m, whose leads `pivots` holds: whether its residue is zero.
+pub fn in_span(q: u64, n: usize, d: usize, row: &[u8], m: &[u8], pivots: &[u8]) -> bool
+    requires { ⌜ T (isFieldSize q) × (d * n ≤ length (now m)) × Kept q n (rowsOf n d (now m)) × Row q n (now row) × (n ≤ 32) ⌝ }
+    requires { ⌜ (d ≤ length (now pivots)) × (take d (now pivots) ≡ leads n (rowsOf n d (now m))) ⌝ }
+    ensures { λ r. ⌜ r ≡ inSpan q n (rowsOf n d (now (m .entry))) (now (row .entry)) ⌝ }
+{
+    let mut work = [0u8; 64];
+    basics::copy(row, &mut work, n);
+    take_off_rows(q, n, d, m, pivots, &mut work);
+    matrix::lead(&work, n, n) == n
 }

@@ -1,2 +1,3 @@
 -- Lemmas; no part of the meaning.
 pub mod Accepted
+pub mod Listable

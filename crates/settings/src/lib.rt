@@ -2,7 +2,7 @@
 ghost use mathlib.Core.Path.{_≡_};
 ghost use Rattle.refusal.specs.Refusal.{unlessRefused};
 ghost use Rattle.counts.specs.Gaussian.{gaussian};
-ghost use Rattle.settings.specs.Settings.{rowLengthOk, settingsRefusal, countOf, countNumber, countValue};
+ghost use Rattle.settings.specs.Settings.{rowLengthOk, settingsRefusal, listRefusal, countOf, countNumber, countValue};
 
 // What Count answers: the number of spaces, or the refusal.
 pub enum Counted {
@@ -34,6 +34,23 @@ pub fn settings_refusal(q: u64, n: u64, k: u64) -> u32
         return refusal::COUNT;
     }
     0
+}
+
+// The most spaces that are listed one by one. Document 01: "12 if N exceeds 65,536".
+pub const GREATEST_LISTING: u64 = 65536;
+
+// The first of the refusals 1, 2, 3, 12 that applies to the settings; 0 where none does.
+pub fn list_refusal(q: u64, n: u64, k: u64) -> u32
+    ensures { λ r. ⌜ r ≡ listRefusal q n k ⌝ }
+{
+    let settings = settings_refusal(q, n, k);
+    if settings != 0 {
+        return settings;
+    }
+    if counts::coefficient(q, n, k) <= GREATEST_LISTING {
+        return 0;
+    }
+    refusal::LISTING
 }
 
 // Count: the number of spaces. Refuses 1, 2, 3.

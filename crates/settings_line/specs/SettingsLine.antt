@@ -2,7 +2,9 @@
 -- line feed with nothing after it".
 --   settingsLine q n k  == that line
 --   IsSettingsLine s x  == the text s is that line of the settings x, three numbers below 1000
---   lineAt s at         == the settings line that begins at the cursor, whatever follows it, with the cursor past it
+--   BeginsLine s x rest == the text s begins with that line of the settings x, three numbers below 1000, and `rest` follows
+--   lineAt s at         == the settings line that begins at the cursor, whatever follows it, with the cursor past it; `line-at-exactly` of
+--                          Theorems: the line with which the text begins from there on, and None where it begins with none
 --   parsed s            == what the text s is found to be; `parsed-exactly` of Theorems: the settings of which s is the line, and Malformed
 --                          where there are none such
 --   decisive            == 13: so many bytes of a text decide what it is, one more than the longest settings line has
@@ -32,6 +34,12 @@ settingsLine q n k = numeral q ++ (comma ∷ numeral n ++ (comma ∷ numeral k +
 
 pub record IsSettingsLine (s : List ℕ) (x : Settings) : Type 0 where
   pub line : s ≡ settingsLine (x .q) (x .n) (x .k)
+  pub q-short : x .q < 1000
+  pub n-short : x .n < 1000
+  pub k-short : x .k < 1000
+
+pub record BeginsLine (s : List ℕ) (x : Settings) (rest : List ℕ) : Type 0 where
+  pub line : s ≡ settingsLine (x .q) (x .n) (x .k) ++ rest
   pub q-short : x .q < 1000
   pub n-short : x .n < 1000
   pub k-short : x .k < 1000

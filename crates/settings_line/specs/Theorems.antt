@@ -1,4 +1,8 @@
 -- What is found to be a settings line is exactly one.
+--   LineAtExactly s at  == from the cursor on, the text s is found to begin with the line of x, and this to end at a place, exactly when it
+--                          begins with the line of x, three numbers below 1000, whatever follows, and the place is the one behind that
+--                          line; and nothing is found exactly when it begins with no such line
+--   line-at-exactly     == it holds of every text and every cursor
 --   ParsedExactly s     == the text s is found to be the settings x exactly when it is the line of x, three numbers below 1000, and
 --                          Malformed exactly when it is no such line
 --   parsed-exactly      == it holds of every text
@@ -8,80 +12,56 @@
 use mathlib.Core.Path.{_≡_, refl, ap, _∙_, sym}
 use mathlib.Core.Bool.{Bool, true, false}
 use mathlib.Core.Logic.{⊎-elim}
-use mathlib.Core.List.{List, [], _∷_, _++_}
-use Prim.Native.Nat.{ℕ, _-_, _≤_, _<_}
+use mathlib.Core.List.{List, [], _++_, append-nil}
+use Prim.Native.Nat.{ℕ, _+_, _≤_, _<_}
+use native.Mathlib.Nat.{zero-add}
 use native.Mathlib.Omega.{arith}
-use borrow.Author.Tests.{eqb-true}
+use borrow.Author.Tests.{eq-eqb, eqb-true}
 use lib.Dec.{eqb}
-use lib.ListN.{length, take, drop, length-append, length-drop}
+use lib.ListN.{length, take, drop, length-append}
 use lib.Seq.{take-all, drop-length, length-take-le}
 use Rattle.basics.specs.Choice.{pick}
 use Rattle.basics.specs.laws.Order.{le-or-lt}
-use Rattle.text.specs.Text.{comma, lineFeed, numeral}
+use Rattle.text.specs.Text.{numeral}
 use Rattle.text.specs.laws.Numeral.{numeral-length}
-use Rattle.settings_line.specs.Decimal.{isDigit, markedAt}
-use Rattle.settings_line.specs.laws.Marked.{marked-is, Reads, marked-reads}
-use Rattle.settings_line.specs.laws.Parse.{parsed-settings}
-use Rattle.settings_line.specs.SettingsLine.{decisive, settingsLine, IsSettingsLine, after, parsed}
-use Rattle.settings_line.specs.declared.decimal.Numeral.{Numeral}
-use Rattle.settings_line.specs.declared.decimal.Decimal.{Decimal}
-use Rattle.settings_line.specs.declared.decimal.Decimal.the-variants.{Number, None}
+use Rattle.settings_line.specs.SettingsLine.{decisive, settingsLine, IsSettingsLine, BeginsLine, lineAt, parsed}
+use Rattle.settings_line.specs.laws.Parse.{whole, parsed-line}
+use Rattle.settings_line.specs.laws.LineAt.{found-begins, begins-found}
 use Rattle.settings_line.specs.declared.Settings.{Settings}
+use Rattle.settings_line.specs.declared.Line.{Line}
+use Rattle.settings_line.specs.declared.Found.{Found}
+use Rattle.settings_line.specs.declared.Found.the-variants.{Line as line, None as nothing}
 use Rattle.settings_line.specs.declared.Parsed.{Parsed}
 use Rattle.settings_line.specs.declared.Parsed.the-variants.{Settings as settings, Malformed}
 
--- what was read before settings were found
-record Before (d : Decimal) (next : Numeral → Parsed) (x : Settings) : Type 0 where
-  number : Numeral
-  read : d ≡ Number number
-  rest : next number ≡ settings x
-
-before : (d : Decimal) (next : Numeral → Parsed) (x : Settings) → after d next ≡ settings x → Before d next x
-before (Number y) next x e = record { number = y; read = refl; rest = e }
-before None next x e = let z : _≡_ {A = ℕ} 0 1 = cc in absurd (omega arith)
-
-at-end : (b : Bool) (x y : Settings) → pick b (settings y) Malformed ≡ settings x → (b ≡ true) × (x ≡ y)
-at-end true x y e = (refl, cc)
-at-end false x y e = let z : _≡_ {A = ℕ} 0 1 = cc in absurd (omega arith)
-
+-- what is found at the start of the text is the settings, where it ends the text
 settings-are : (s : List ℕ) (x : Settings) → parsed s ≡ settings x → IsSettingsLine s x
-unfolding parsed settingsLine
-settings-are s x e =
-    let q = before (markedAt s 0 3 comma) _ x e in
-    let n = before (markedAt s (q .number .end) 3 comma) _ x (q .rest) in
-    let k = before (markedAt s (n .number .end) 3 lineFeed) _ x (n .rest) in
-    let end = at-end (eqb (k .number .end) (length s)) x _ (k .rest) in
-    let first = marked-is s 0 3 comma (q .number) (q .read) in
-    let second = marked-is s (q .number .end) 3 comma (n .number) (n .read) in
-    let third = marked-is s (n .number .end) 3 lineFeed (k .number) (k .read) in
-    let nothing : drop (k .number .end) s ≡ [] = ap (λ i. drop i s) (eqb-true (k .number .end) (length s) (end .0)) ∙ drop-length s in
-    let tail = third .0 ∙ ap (λ t. numeral (k .number .value) ++ (lineFeed ∷ t)) nothing in
-    rw (end .1)
-    (record {
-      line =
-          first .0
-          ∙ ap (λ t. numeral (q .number .value) ++ (comma ∷ t)) (second .0 ∙ ap (λ t. numeral (n .number .value) ++ (comma ∷ t)) tail);
-      q-short = first .1;
-      n-short = second .1;
-      k-short = third .1;
-    })
+settings-are s x e = cases (lineAt s 0) refl (sym (parsed-line s) ∙ e)
+  where
+    at-end : (b : Bool) (y : Settings) → pick b (settings y) Malformed ≡ settings x → (b ≡ true) × (x ≡ y)
+    at-end true y e = (refl, cc)
+    at-end false y e = let z : _≡_ {A = ℕ} 0 1 = cc in absurd (omega arith)
 
--- where nothing is ahead, the text ends
-last-end : (s : List ℕ) (at most mark v : ℕ) (r : Reads s at most mark v []) → r .end ≡ length s
-last-end s at most mark v r =
-    let left : length s - r .end ≡ 0 = sym (length-drop (r .end) s) ∙ ap length (r .ahead) in
-    let within : r .end ≤ length s = r .within in
-    omega arith
+    cases : (f : Found) → lineAt s 0 ≡ f → whole (length s) f ≡ settings x → IsSettingsLine s x
+    cases nothing f e = let z : _≡_ {A = ℕ} 0 1 = cc in absurd (omega arith)
+    cases (line l) f e =
+        let end = at-end (eqb (l .end) (length s)) (l .settings) e in
+        let b = found-begins s 0 l f .0 in
+        let none : drop (l .end) s ≡ [] = ap (λ i. drop i s) (eqb-true (l .end) (length s) (end .0)) ∙ drop-length s in
+        rw (end .1)
+        (record {
+          line = b .line ∙ ap (λ t. settingsLine (l .settings .q) (l .settings .n) (l .settings .k) ++ t) none ∙ append-nil _;
+          q-short = b .q-short;
+          n-short = b .n-short;
+          k-short = b .k-short;
+        })
 
 line-parsed : (s : List ℕ) (x : Settings) → IsSettingsLine s x → parsed s ≡ settings x
-unfolding settingsLine isDigit
 line-parsed s x l =
-    let rest = numeral (x .n) ++ (comma ∷ numeral (x .k) ++ (lineFeed ∷ [])) in
-    let q = marked-reads s 0 2 comma (x .q) rest refl (l .line) (l .q-short) (omega (arith, l .q-short)) in
-    let n = marked-reads s (q .end) 2 comma (x .n) (numeral (x .k) ++ (lineFeed ∷ [])) refl (q .ahead) (l .n-short)
-    (omega (arith, l .n-short)) in
-    let k = marked-reads s (n .end) 2 lineFeed (x .k) [] refl (n .ahead) (l .k-short) (omega (arith, l .k-short)) in
-    parsed-settings s _ (q .read) _ (n .read) _ (k .read) (last-end s (n .end) 3 lineFeed (x .k) k)
+    let b : BeginsLine (drop 0 s) x [] =
+    record { line = l .line ∙ sym (append-nil _); q-short = l .q-short; n-short = l .n-short; k-short = l .k-short } in
+    let end : 0 + length (settingsLine (x .q) (x .n) (x .k)) ≡ length s = zero-add _ ∙ ap length (sym (l .line)) in
+    parsed-line s ∙ ap (whole (length s)) (begins-found s 0 x [] b) ∙ rw (eq-eqb _ (length s) end)
 
 never-both : (s : List ℕ) (x : Settings) → parsed s ≡ settings x → parsed s ≡ Malformed → ⊥
 never-both s x e f = let z : _≡_ {A = ℕ} 0 1 = cc in omega arith
@@ -104,6 +84,30 @@ parsed-exactly s =
     cases : (p : Parsed) → parsed s ≡ p → ((x : Settings) → IsSettingsLine s x → ⊥) → parsed s ≡ Malformed
     cases (settings x) e h = absurd (h x (settings-are s x e))
     cases Malformed e h = e
+
+pub record LineAtExactly (s : List ℕ) (at : ℕ) : Type 0 where
+  pub found-is-line : (x : Settings) (end : ℕ) → lineAt s at ≡ line (record { settings = x; end = end })
+      → BeginsLine (drop at s) x (drop end s) × (end ≡ at + length (settingsLine (x .q) (x .n) (x .k)))
+  pub line-is-found : (x : Settings) (rest : List ℕ) → BeginsLine (drop at s) x rest
+      → lineAt s at ≡ line (record { settings = x; end = at + length (settingsLine (x .q) (x .n) (x .k)) })
+  pub nothing-is-none : lineAt s at ≡ nothing → (x : Settings) (rest : List ℕ) → BeginsLine (drop at s) x rest → ⊥
+  pub none-is-nothing : ((x : Settings) (rest : List ℕ) → BeginsLine (drop at s) x rest → ⊥) → lineAt s at ≡ nothing
+
+pub line-at-exactly : (s : List ℕ) (at : ℕ) → LineAtExactly s at
+line-at-exactly s at =
+    record {
+      found-is-line = λ x end e. found-begins s at (record { settings = x; end = end }) e;
+      line-is-found = begins-found s at;
+      nothing-is-none = λ e x rest b. not-both _ (begins-found s at x rest b) e;
+      none-is-nothing = λ h. cases (lineAt s at) refl h;
+    }
+  where
+    not-both : (l : Line) → lineAt s at ≡ line l → lineAt s at ≡ nothing → ⊥
+    not-both l e f = let z : _≡_ {A = ℕ} 0 1 = cc in omega arith
+
+    cases : (f : Found) → lineAt s at ≡ f → ((x : Settings) (rest : List ℕ) → BeginsLine (drop at s) x rest → ⊥) → lineAt s at ≡ nothing
+    cases (line l) e h = absurd (h (l .settings) (drop (l .end) s) (found-begins s at l e .0))
+    cases nothing e h = e
 
 pub settings-line-short : (q n k : ℕ) → q < 1000 → n < 1000 → k < 1000 → length (settingsLine q n k) ≤ 12
 unfolding settingsLine

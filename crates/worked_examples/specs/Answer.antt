@@ -14,9 +14,9 @@ use mathlib.Core.List.{List, [], _∷_, _++_}
 use Prim.Native.Nat.{ℕ, _*_, _-_, _^_}
 use lib.ListN.{length, replicate}
 use Rattle.basics.specs.Sum.{bit}
-use Rattle.settings.specs.Settings.{countOf, countNumber, countValue}
+use Rattle.settings.specs.Settings.{listRefusal, countOf, countNumber, countValue}
 use Rattle.ferrers.specs.Ferrers.{size, diagram, diagramPlace, largerDiagrams, tableauValue}
-use Rattle.listing.specs.Listing.{listRefusal, listingOutput}
+use Rattle.listing.specs.Listing.{listingOutput}
 use Rattle.text.specs.Piece.{fits, placeAfter, bufferAfter}
 use Rattle.draw.specs.Draw.{drawRefusal, drawBuffer}
 use Rattle.draw_batch.specs.Batch.{batchRefusal, batchMatrices, batchAnswers}

@@ -14,7 +14,7 @@ use Rattle.worked_examples.specs.Marked.{marked}
 use Rattle.worked_examples.specs.Readings.{readings}
 use Rattle.worked_examples.specs.Refusals.{refusals}
 use Rattle.counts.specs.Gaussian.{gaussian}
-use Rattle.settings.specs.Settings.{rowLengthOk, rangeOk, countOk, settingsRefusal, countOf}
+use Rattle.settings.specs.Settings.{rowLengthOk, rangeOk, countOk, settingsRefusal, listRefusal, countOf}
 use Rattle.field.specs.Polynomial.{times, remainder}
 use Rattle.field.specs.Field.{isFieldSize, isPolynomial, add, multiply, negate, leastFrom, invert}
 use Rattle.matrix.specs.Matrix.{leadFrom, lead, pivotAt, identifying, columnValue, entriesBelow, columnAlone, rowReduced, isReduced}
@@ -29,7 +29,7 @@ use Rattle.ferrers.specs.Ferrers.{diagramTerm, diagramPlace, largerDiagrams, fe
 use Rattle.ferrers.specs.Drawn.{diagramShape, sizedShape, ferrersShape, drawnFerrers}
 use Rattle.ferrers.specs.laws.ShapeRank.{shapeSize, shapePlace, shapeTableau, ferrersRank}
 use Rattle.linear.specs.Eliminate.{leadOf, eliminate, residue, monic, putAmong, insertResidue, insertRow, insertRows, reducedRows, join}
-use Rattle.linear.specs.Eliminate.{reducedOf, dimension}
+use Rattle.linear.specs.Eliminate.{inSpan, reducedOf, dimension}
 use Rattle.linear.specs.Span.{combinationAt, combination, InSpan, SameSpan, rowsOf, HasDimension}
 use Rattle.refusal.specs.Refusal.{refuseUnless, first, unlessRefused}
 use Rattle.numbering.specs.Numbering.{isNumbering, numberingOf, choiceRefusal}
@@ -37,7 +37,7 @@ use Rattle.draw.specs.Draw.{drawRefusal, drawBuffer}
 use Rattle.draw_batch.specs.Batch.{batchRefusal, drawParts, drawAnswers, batchMatrices, batchAnswers}
 use Rattle.number.specs.Number.{entriesRefusal, numberRefusal, numberOf}
 use Rattle.convert.specs.Convert.{convertRefusal, convertOf}
-use Rattle.reduce.specs.Reduce.{reduceRefusal, reduceOf, reduceBuffer}
+use Rattle.reduce.specs.Reduce.{rowsSizeRefusal, rowListRefusal, reduceRefusal, reduceOf, reduceBuffer}
 use Rattle.receive.specs.Answer.{spaceRefusal, spaceAnswer}
 use Rattle.receive.specs.Receive.{rowsRefusal, receiveRefusal, receiveOf}
 use Rattle.receiver.specs.Receiver.{startOf, wellFormed, heldRows, holding, takeRefusal, takenIn, takeOf, closeRefusal, closeOf}
@@ -50,7 +50,7 @@ use Rattle.rows_text.specs.Rows.{rowText, rowsText}
 use Rattle.listing.specs.Line.{lineText}
 use Rattle.settings_line.specs.Decimal.{isDigit, digitRun, reading, isNumeral, decimalAt, markedAt}
 use Rattle.settings_line.specs.SettingsLine.{parsed}
-use Rattle.listing.specs.Listing.{listRefusal, listingLine, linesFrom, columnNames, header, refusedWord, refusedLine, listingOutput}
+use Rattle.listing.specs.Listing.{listingLine, linesFrom, columnNames, header, refusedWord, refusedLine, listingOutput}
 use Rattle.basics.specs.All.{allBelow}
 use Rattle.basics.specs.Sum.{sum, sumRange, value}
 use Rattle.basics.specs.Table.{tabulate}
@@ -81,10 +81,10 @@ unfolding placeAfter bufferAfter listingOutput columnNames header linesFrom list
     extendedColumn extendedBefore extendedRank extendedShape drawnExtended partitionsRow partitions freeFrom freeColumns dots diagram
     total size dottedFrom tableauOf tableau tableauValue diagramTerm diagramPlace largerDiagrams ferrersIndex shapeSize boxCount
     shapePlace shapeTableau ferrersRank diagramShape sizedShape ferrersShape drawnFerrers leadOf eliminate residue monic putAmong
-    insertResidue insertRow insertRows reducedRows join reducedOf dimension combinationAt combination InSpan SameSpan rowsOf
+    insertResidue insertRow insertRows reducedRows join reducedOf inSpan dimension combinationAt combination InSpan SameSpan rowsOf
     HasDimension refuseUnless first unlessRefused isNumbering numberingOf choiceRefusal drawRefusal drawBuffer batchRefusal drawParts
     drawAnswers batchMatrices batchAnswers entriesRefusal
-    numberRefusal numberOf reduceRefusal reduceBuffer spaceAnswer
+    numberRefusal numberOf rowsSizeRefusal rowListRefusal reduceRefusal reduceBuffer spaceAnswer
     rowsRefusal receiveRefusal receiveOf allBelow sum sumRange value tabulate padded refusedWord refusedLine reduceOf convertRefusal
     convertOf startOf wellFormed heldRows holding takeRefusal takenIn takeOf closeRefusal closeOf bytesOf exportedRefusal
     exportedNumber exportedOf exportedBytes spaceRefusal jointOf jointDimension wide wideRows stacked rightHalves commonRows commonOf

@@ -5,8 +5,8 @@ use mathlib.Core.Bool.{true}
 use native.Mathlib.Omega.{arith}
 use Rattle.counts.specs.Gaussian.{gaussian}
 use Rattle.settings.specs.laws.Accepted.{entry-of-accepted}
-use Rattle.listing.specs.Listing.{listRefusal}
-use Rattle.listing.specs.laws.Listing.{Listable, listable}
+use Rattle.settings.specs.Settings.{listRefusal}
+use Rattle.settings.specs.laws.Listable.{Listable, listable}
 use Rattle.listing.specs.Steps.{live, linesEnd}
 use Rattle.listing.specs.laws.Steps.{is-live, refused-dead, past-dead, end-within, dead-step, live-step}
 use borrow.Author.Needs.{needs}

@@ -19,6 +19,8 @@ use Rattle.matrix.specs.Matrix.{Reduced}
 use Rattle.counts.specs.Gaussian.{gaussian}
 use Rattle.counts.specs.laws.GaussianLaws.{gaussian-whole}
 use Rattle.settings.specs.laws.Accepted.{Accepted}
+use Rattle.settings.specs.Settings.{greatestListing}
+use Rattle.settings.specs.laws.Listable.{Listable}
 use Rattle.extended.specs.Drawn.{drawnExtended}
 use Rattle.extended.specs.laws.Theorems.{drawn-reduced}
 use Rattle.ferrers.specs.Ferrers.{ferrersIndex}
@@ -28,8 +30,7 @@ use Rattle.rows_text.specs.Rows.{DigitRows, rowsText}
 use Rattle.text.specs.laws.Numeral.{numeral-length}
 use Rattle.rows_text.specs.laws.Rows.{rowsText-length}
 use Rattle.listing.specs.Line.{longestLine, lineText}
-use Rattle.listing.specs.Listing.{greatestListing, listingLine}
-use Rattle.listing.specs.laws.Listing.{Listable}
+use Rattle.listing.specs.Listing.{listingLine}
 
 abbrev pub wordLine : List ℕ → List ℕ
 wordLine s = s ++ (lineFeed ∷ [])

@@ -20,10 +20,11 @@ use lib.ListN.{length}
 use Rattle.basics.specs.laws.Order.{le-or-lt}
 use Rattle.refusal.specs.Refusal.{lineRefusal}
 use Rattle.counts.specs.Gaussian.{gaussian}
+use Rattle.settings.specs.Settings.{listRefusal}
 use Rattle.settings_line.specs.SettingsLine.{parsed}
 use Rattle.settings_line.specs.declared.Settings.{Settings}
 use Rattle.settings_line.specs.declared.Parsed.the-variants.{Settings as settings, Malformed}
-use Rattle.listing.specs.Listing.{listRefusal, linesFrom}
+use Rattle.listing.specs.Listing.{linesFrom}
 use Rattle.listing.specs.Steps.{chunkLines, live, linesEnd, progressTo, remainingLines, begunFor, begun, linesChunk, linesNext}
 use Rattle.listing.specs.Steps.{nextState}
 use Rattle.listing.specs.Steps.{stateAfter}

@@ -12,10 +12,11 @@ use native.Mathlib.Omega.{arith}
 use lib.ListN.{length, take, drop, length-append, length-drop}
 use lib.Seq.{take-at, drop-at, length-take-le}
 use Rattle.counts.specs.Gaussian.{gaussian}
+use Rattle.settings.specs.laws.Listable.{Listable}
 use Rattle.listing.specs.Line.{lineRoom, longestLine}
 use Rattle.listing.specs.Listing.{listingLine, linesFrom}
 use Rattle.listing.specs.Steps.{chunkLines, chunkSize}
-use Rattle.listing.specs.laws.Listing.{Listable, lines-more}
+use Rattle.listing.specs.laws.Listing.{lines-more}
 use Rattle.listing.specs.laws.Line.{line-short}
 use Rattle.listing.specs.Front.{written}
 use Rattle.listing.specs.laws.Front.{written-length, written-more, written-part}

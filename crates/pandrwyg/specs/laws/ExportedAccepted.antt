@@ -13,14 +13,14 @@ use borrow.Author.Tests.{eq-eqb, eqb-true}
 use lib.Dec.{T, eqb}
 use lib.ListN.{length}
 use Rattle.basics.specs.laws.Choice.{holds}
-use Rattle.refusal.specs.Refusal.{lengthRefusal, entryRefusal, refuseUnless, unlessRefused}
+use Rattle.refusal.specs.Refusal.{lengthRefusal, entryRefusal, refuseUnless, first, unlessRefused}
 use Rattle.refusal.specs.laws.First.{first-zero, first-refused, first-passed, test-zero, test-passed, first-none, kept, done}
 use Rattle.matrix.specs.Matrix.{entriesBelow}
 use Rattle.linear.specs.Span.{rowsOf}
 use Rattle.linear.specs.Eliminate.{reducedOf, dimension}
 use Rattle.receive.specs.Answer.{Told}
 use Rattle.receive.specs.Receive.{rowsRefusal, receiveRefusal, reducedAnswer, receiveOf}
-use Rattle.receive.specs.laws.ReceiveAccepted.{RowsAccepted, rows-accepted}
+use Rattle.receive.specs.laws.ReceiveAccepted.{RowsAccepted, rows-accepted, receive-split}
 use Rattle.receive.specs.laws.Space.{space-told, refused-told}
 use Rattle.receive.specs.declared.Received.the-variants.{Refused}
 use Rattle.pandrwyg.specs.Exported.{answerSize, exportedRefusal, exportedOf}
@@ -69,12 +69,17 @@ module _ (q n k t r : ℕ) (input : List ℕ) where
 
   -- an answer of the right length adds no refusal
   same : exportedRefusal q n k t r input answerSize ≡ receiveRefusal q n k t r input
-  unfolding exportedRefusal receiveRefusal
-  same = cases (ℕ-discrete (rowsRefusal q n k t r (length input)) 0)
+  unfolding exportedRefusal
+  same = cases (ℕ-discrete (rowsRefusal q n k t r (length input)) 0) ∙ sym (receive-split q n k t r input)
     where
-      cases : Dec (rowsRefusal q n k t r (length input) ≡ 0) → exportedRefusal q n k t r input answerSize ≡ receiveRefusal q n k t r input
-      cases (yes z) = first-passed _ _ z ∙ test-passed _ _ _ refl ∙ sym (first-passed _ _ z)
-      cases (no z) = first-refused _ _ z ∙ sym (first-refused _ _ z)
+      entries : List ℕ
+      entries = refuseUnless (entriesBelow q input) entryRefusal ∷ []
+
+      cases : Dec (rowsRefusal q n k t r (length input) ≡ 0)
+          → exportedRefusal q n k t r input answerSize
+          ≡ first (rowsRefusal q n k t r (length input) ∷ refuseUnless (entriesBelow q input) entryRefusal ∷ [])
+      cases (yes z) = first-passed _ _ z ∙ test-passed _ _ _ refl ∙ sym (first-passed _ entries z)
+      cases (no z) = first-refused _ _ z ∙ sym (first-refused _ entries z)
 
   pub exported-receive : exportedOf q n k t r input answerSize ≡ receiveOf q n k t r input
   unfolding exportedOf receiveOf

@@ -7,19 +7,21 @@ use mathlib.Core.Path.{_≡_, refl, ap, _∙_}
 use mathlib.Core.Bool.{true}
 use mathlib.Core.List.{List, [], _∷_}
 use Prim.Native.Nat.{ℕ, _*_, _≤_}
-use borrow.Author.Tests.{eq-eqb, le-leb, eqb-true, leb-true}
-use lib.Dec.{T, eqb, leb}
+use borrow.Author.Tests.{eq-eqb, eqb-true}
+use lib.Dec.{T, eqb}
 use lib.ListN.{length}
 use Rattle.basics.specs.laws.Choice.{holds}
-use Rattle.refusal.specs.Refusal.{fieldSizeRefusal, rangeRefusal, lengthRefusal, entryRefusal, rowCountRefusal, refuseUnless, unlessRefused}
-use Rattle.refusal.specs.laws.First.{test-zero, test-passed, first-none, told-number, told-value}
+use Rattle.refusal.specs.Refusal.{fieldSizeRefusal, rangeRefusal, lengthRefusal, entryRefusal, refuseUnless, unlessRefused}
+use Rattle.refusal.specs.laws.First.{first-zero, first-passed, test-zero, test-passed, first-none, told-number, told-value}
 use Rattle.field.specs.Field.{isFieldSize}
 use Rattle.settings.specs.Settings.{rowLengthOk}
 use Rattle.settings.specs.laws.Accepted.{row-length-fits}
 use Rattle.matrix.specs.Matrix.{entriesBelow, identifying}
 use Rattle.linear.specs.Span.{rowsOf}
 use Rattle.linear.specs.Eliminate.{reducedOf, dimension}
-use Rattle.reduce.specs.Reduce.{mostRows, spaceOf, reduceRefusal, reduceOf, reductionNumber, reductionDimension, reductionVector}
+use Rattle.reduce.specs.Reduce.{mostRows, rowsSizeRefusal, spaceOf, reduceRefusal, reduceOf}
+use Rattle.reduce.specs.Reduce.{reductionNumber, reductionDimension, reductionVector}
+use Rattle.reduce.specs.laws.RowList.{rows-size-accepted, rows-size-unrefused}
 use Rattle.reduce.specs.declared.Reduction.{Reduction}
 use Rattle.reduce.specs.declared.Reduction.the-variants.{Done, Refused}
 
@@ -37,18 +39,17 @@ module _ (q n r : ℕ) (input : List ℕ) (size : ℕ) where
   reduce-accepted e =
       let entries = refuseUnless (entriesBelow q input) entryRefusal ∷ [] in
       let output = refuseUnless (eqb size (n * n)) lengthRefusal ∷ entries in
-      let bytes = refuseUnless (eqb (length input) (r * n)) lengthRefusal ∷ output in
-      let count = refuseUnless (leb r mostRows) rowCountRefusal ∷ bytes in
-      let f = test-zero (isFieldSize q) fieldSizeRefusal (refuseUnless (rowLengthOk n) rangeRefusal ∷ count) tt e in
-      let l = test-zero (rowLengthOk n) rangeRefusal count tt (f .1) in
-      let c = test-zero (leb r mostRows) rowCountRefusal bytes tt (l .1) in
-      let i = test-zero (eqb (length input) (r * n)) lengthRefusal output tt (c .1) in
-      let o = test-zero (eqb size (n * n)) lengthRefusal entries tt (i .1) in
+      let rows = rowsSizeRefusal n r (length input) ∷ output in
+      let f = test-zero (isFieldSize q) fieldSizeRefusal (refuseUnless (rowLengthOk n) rangeRefusal ∷ rows) tt e in
+      let l = test-zero (rowLengthOk n) rangeRefusal rows tt (f .1) in
+      let c = first-zero (rowsSizeRefusal n r (length input)) output (l .1) in
+      let i = rows-size-accepted n r (length input) (c .0) in
+      let o = test-zero (eqb size (n * n)) lengthRefusal entries tt (c .1) in
       record {
         field = holds (isFieldSize q) (f .0);
         narrow = row-length-fits n (l .0) .1;
-        few = leb-true r mostRows (c .0);
-        sized = eqb-true (length input) (r * n) (i .0);
+        few = i .0;
+        sized = i .1;
         room = eqb-true size (n * n) (o .0);
         below = holds (entriesBelow q input) (test-zero (entriesBelow q input) entryRefusal [] tt (o .1) .0);
       }
@@ -57,8 +58,8 @@ module _ (q n r : ℕ) (input : List ℕ) (size : ℕ) where
       → entriesBelow q input ≡ true → reduceRefusal q n r input size ≡ 0
   unfolding reduceRefusal
   reduce-unrefused s l h i o e =
-      test-passed _ _ _ s ∙ test-passed _ _ _ l ∙ test-passed _ _ _ (le-leb r mostRows h)
-      ∙ test-passed _ _ _ (eq-eqb (length input) (r * n) i)
+      test-passed _ _ _ s ∙ test-passed _ _ _ l
+      ∙ first-passed _ _ (rows-size-unrefused n r (length input) h i)
       ∙ test-passed _ _ _ (eq-eqb size (n * n) o)
       ∙ test-passed _ _ _ e
       ∙ first-none

@@ -3,6 +3,7 @@
 --   test-refused, test-passed   == the same of a test
 --   positive                    == a number above 0 is a refusal
 --   first-none, first-one       == no test is left; one is
+--   first-head, first-tail      == tests that are a definition of their own: they stand first; they stand last
 --   first-zero, test-zero       == the list comes to no refusal: not the first, and none of the rest
 --   kept, done                  == what is answered or left, refused or not
 --   told-number, told-value     == the number and a value of such an answer
@@ -42,6 +43,20 @@ first-one refusal = cases (ℕ-discrete refusal 0)
     cases : Dec (refusal ≡ 0) → first (refusal ∷ []) ≡ refusal
     cases (yes z) = first-passed refusal [] z ∙ first-none ∙ sym z
     cases (no z) = first-refused refusal [] z
+
+pub first-head : (a b : ℕ) (rest : List ℕ) → first (first (a ∷ b ∷ []) ∷ rest) ≡ first (a ∷ b ∷ rest)
+first-head a b rest = cases (ℕ-discrete a 0)
+  where
+    cases : Dec (a ≡ 0) → first (first (a ∷ b ∷ []) ∷ rest) ≡ first (a ∷ b ∷ rest)
+    cases (yes z) = ap (λ x. first (x ∷ rest)) (first-passed a (b ∷ []) z ∙ first-one b) ∙ sym (first-passed a (b ∷ rest) z)
+    cases (no z) = ap (λ x. first (x ∷ rest)) (first-refused a (b ∷ []) z) ∙ first-refused a rest z ∙ sym (first-refused a (b ∷ rest) z)
+
+pub first-tail : (a : ℕ) (rest : List ℕ) → first (a ∷ first rest ∷ []) ≡ first (a ∷ rest)
+first-tail a rest = cases (ℕ-discrete a 0)
+  where
+    cases : Dec (a ≡ 0) → first (a ∷ first rest ∷ []) ≡ first (a ∷ rest)
+    cases (yes z) = first-passed a (first rest ∷ []) z ∙ first-one (first rest) ∙ sym (first-passed a rest z)
+    cases (no z) = first-refused a (first rest ∷ []) z ∙ sym (first-refused a rest z)
 
 pub positive : (refusal : ℕ) → T (ltb 0 refusal) → refusal ≡ 0 → ⊥
 positive refusal t e = rw e at t

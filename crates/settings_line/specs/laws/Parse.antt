@@ -2,12 +2,10 @@
 --   line-first, -second, -third == no line, where that number is not read. line-whole == the line, where all are
 --   whole size found   == the settings of the line that was found, where it ends the text
 --   parsed-line        == a text is found to be what stands at its start, where that ends it
---   parsed-settings    == the settings, where all numbers are read and end the text
 -- Assumes nothing.
 use mathlib.Core.Path.{_≡_, refl}
 use mathlib.Core.List.{List}
 use Prim.Native.Nat.{ℕ}
-use borrow.Author.Tests.{eq-eqb}
 use lib.Dec.{eqb}
 use lib.ListN.{length}
 use Rattle.basics.specs.Choice.{pick}
@@ -57,9 +55,3 @@ parsed-line s =
     whole-next (length s) (markedAt s 0 3 comma) _ _
     (λ q. whole-next (length s) (markedAt s (q .end) 3 comma) _ _
     (λ n. whole-next (length s) (markedAt s (n .end) 3 lineFeed) _ _ (λ k. refl)))
-
-pub parsed-settings : (s : List ℕ) (q : Numeral) → markedAt s 0 3 comma ≡ Number q → (n : Numeral) → markedAt s (q .end) 3 comma ≡ Number n
-    → (k : Numeral) → markedAt s (n .end) 3 lineFeed ≡ Number k → k .end ≡ length s
-    → parsed s ≡ settings (record { q = q .value; n = n .value; k = k .value })
-unfolding parsed
-parsed-settings s q e n f k g h = rw (e, f, g, eq-eqb (k .end) (length s) h)

@@ -1,15 +1,15 @@
 -- `listing::write::write_space` meets its contract: the part of the local array that is drawn into is the drawn matrix, which is reduced,
 -- numbered and written.
-use mathlib.Core.Path.{_≡_, _∙_, ap, ap₂, sym, subst}
+use mathlib.Core.Path.{_≡_, refl, _∙_, ap, ap₂, sym, subst}
 use mathlib.Core.List.{List, [], _∷_, _++_}
 use Prim.Native.Nat.{ℕ, _*_, _≤_}
 use native.Mathlib.Nat.{min-eq-left}
 use native.Mathlib.Omega.{arith}
-use lib.ListN.{length, take, drop, replicate, length-take, length-append}
-use lib.Seq.{take-at}
-use Rattle.matrix.specs.Matrix.{Reduced, identifying}
+use lib.ListN.{length, take, drop, replicate, length-take}
 use Rattle.extended.specs.Drawn.{drawnExtended}
 use Rattle.ferrers.specs.Ferrers.{ferrersIndex}
+use Rattle.numbering.specs.Numbering.{extended}
+use Rattle.numbering.specs.laws.Either.{is-extended}
 use Rattle.text.specs.Text.{comma, lineFeed, numeral}
 use Rattle.text.specs.Piece.{joined}
 use Rattle.rows_text.specs.Rows.{DigitRows, rowsText}
@@ -36,45 +36,21 @@ unfolding zeros
 part size h = length-take size zeros ∙ min-eq-left h
 
 -- the drawn matrix at the front of the array
-filled : (c : tie.After-unrank) → let a = c .before .before .before .args in length (c .unrank .last .0) ≡ a .k * a .n
-unfolding zeros
-filled c = c .unrank .kept .0 ∙ part _ (short (c .before .before))
-
-front : (c : tie.After-unrank) → let a = c .before .before .before .args in
-    take (a .k * a .n) (c .unrank .last .0 ++ drop (a .k * a .n) zeros) ≡ drawnExtended (a .q) (a .n) (a .k) (a .index .0)
-unfolding zeros
-front c =
+drawn-is : (c : tie.After-unrank-indexes) → let a = c .before .before .before .args in
+    c .unrank-indexes .last .0 ≡ drawnExtended (a .q) (a .n) (a .k) (a .index .0)
+drawn-is c =
     let a = c .before .before .before .args in
-    take-at (c .unrank .last .0) (drop (a .k * a .n) zeros) (a .k * a .n) (filled c) ∙ c .unrank .ensures .0
+    c .unrank-indexes .ensures .0 ∙ sym (ap (λ N. N .matrix (a .q) (a .n) (a .k) (a .index .0)) (is-extended extended refl))
 
-sized : (c : tie.After-unrank) → let a = c .before .before .before .args in
-    a .k * a .n ≡ length (take (a .k * a .n) (c .unrank .last .0 ++ drop (a .k * a .n) zeros))
-unfolding zeros
-sized c =
-    let a = c .before .before .before .args in
-    sym (ap length (take-at (c .unrank .last .0) (drop (a .k * a .n) zeros) (a .k * a .n) (filled c)) ∙ filled c)
-
-reduced : (c : tie.After-unrank) → let a = c .before .before .before .args in
-    Reduced (a .q) (a .n) (a .k) (take (a .k * a .n) (c .unrank .last .0 ++ drop (a .k * a .n) zeros))
-unfolding zeros
-reduced c =
-    let s = c .before .before .before in
-    let a = s .args in
-    subst (Reduced (a .q) (a .n) (a .k)) (sym (front c)) (drawn-is-reduced (a .q) (a .n) (a .k) (a .index .0) (s .pre .0 .settings)
-    (s .pre .1))
-
-numbered : (c : tie.After-rank) →
-    let a = c .before .before .before .before .before .before .args in
-    c .rank .result .0 ≡ ferrersIndex (a .q) (a .n) (a .k) (drawnExtended (a .q) (a .n) (a .k) (a .index .0))
-unfolding zeros
+numbered : (c : tie.After-unrank-indexes) → let a = c .before .before .before .args in
+    c .unrank-indexes .result .ferrers .0 ≡ ferrersIndex (a .q) (a .n) (a .k) (drawnExtended (a .q) (a .n) (a .k) (a .index .0))
 numbered c =
-    let f = c .before .before .before in
-    let a = f .before .before .before .args in
-    c .rank .ensures ∙ ap (ferrersIndex (a .q) (a .n) (a .k)) (front f)
+    let a = c .before .before .before .args in
+    c .unrank-indexes .ensures .1 .1 ∙ ap (ferrersIndex (a .q) (a .n) (a .k)) (sym (c .unrank-indexes .ensures .0) ∙ drawn-is c)
 
 -- what stands behind the drawn matrix is no part of its text
-rows-of : (c : tie.After-unrank) → let a = c .before .before .before .args in
-    rowsText (a .n) (a .k) (c .unrank .last .0 ++ drop (a .k * a .n) zeros) ≡ rowsText (a .n) (a .k)
+rows-of : (c : tie.After-unrank-indexes) → let a = c .before .before .before .args in
+    rowsText (a .n) (a .k) (c .unrank-indexes .last .0 ++ drop (a .k * a .n) zeros) ≡ rowsText (a .n) (a .k)
     (drawnExtended (a .q) (a .n) (a .k) (a .index .0))
 unfolding zeros
 rows-of c =
@@ -82,20 +58,19 @@ rows-of c =
     let a = s .args in
     let m = drawnExtended (a .q) (a .n) (a .k) (a .index .0) in
     let r = drawn-is-reduced (a .q) (a .n) (a .k) (a .index .0) (s .pre .0 .settings) (s .pre .1) in
-    ap (λ l. rowsText (a .n) (a .k) (l ++ drop (a .k * a .n) zeros)) (c .unrank .ensures .0)
+    ap (λ l. rowsText (a .n) (a .k) (l ++ drop (a .k * a .n) zeros)) (drawn-is c)
     ∙ rowsText-front (a .n) (a .k) m (drop (a .k * a .n) zeros) (omega (arith, r .size))
 
 -- the line that is put together is the listing's
-line : (c : tie.After-rank) →
-    let f = c .before .before .before in
-    let a = f .before .before .before .args in
-    joined (linePieces (a .index .0) (c .rank .result .0) (rowsText (a .n) (a .k) (f .unrank .last .0 ++ drop (a .k * a .n) zeros)))
+line : (c : tie.After-unrank-indexes) →
+    let a = c .before .before .before .args in
+    joined (linePieces (a .index .0) (c .unrank-indexes .result .ferrers .0)
+    (rowsText (a .n) (a .k) (c .unrank-indexes .last .0 ++ drop (a .k * a .n) zeros)))
     ≡ listingLine (a .q) (a .n) (a .k) (a .index .0)
 unfolding zeros listingLine lineText
 line c =
-    let f = c .before .before .before in
-    let a = f .before .before .before .args in
-    ap₂ (λ i rows. numeral (a .index .0) ++ (comma ∷ (numeral i ++ (comma ∷ (rows ++ (lineFeed ∷ [])))))) (numbered c) (rows-of f)
+    let a = c .before .before .before .args in
+    ap₂ (λ i rows. numeral (a .index .0) ++ (comma ∷ (numeral i ++ (comma ∷ (rows ++ (lineFeed ∷ [])))))) (numbered c) (rows-of c)
 
 mul-size : tie.Need-mul-size
 mul-size c = omega (arith, short c)
@@ -103,37 +78,21 @@ mul-size c = omega (arith, short c)
 array-borrow-prefix-entries : tie.Need-array-borrow-prefix-entries
 array-borrow-prefix-entries c = short c
 
-slice-aggregate-unrank : tie.Need-slice-aggregate-unrank
+slice-aggregate-unrank-indexes : tie.Need-slice-aggregate-unrank-indexes
 unfolding zeros
-slice-aggregate-unrank c = sym (part _ (short (c .before)))
+slice-aggregate-unrank-indexes c = sym (part _ (short (c .before)))
 
-unrank-requires : tie.Need-unrank-requires
+unrank-indexes-requires : tie.Need-unrank-indexes-requires
 unfolding zeros
-unrank-requires c κs = let s = c .before .before in (s .pre .0 .settings, s .pre .1, part _ (short (c .before)))
-
-array-share-prefix-entries : tie.Need-array-share-prefix-entries
-unfolding zeros
-array-share-prefix-entries c = rw (length-append _ (drop _ zeros)) (omega (arith, filled (c .before)))
-
-slice-aggregate-rank : tie.Need-slice-aggregate-rank
-unfolding zeros
-slice-aggregate-rank c = sized (c .before .before)
-
-rank-requires : tie.Need-rank-requires
-unfolding zeros
-rank-requires c κs =
-    let f = c .before .before in
-    let s = f .before .before .before in
-    let a = s .args in
-    (s .pre .0 .settings, reduced f, f .unrank .ensures .1 ∙ ap (identifying (a .n) (a .k)) (sym (front f)))
+unrank-indexes-requires c κs = let s = c .before .before in (s .pre .0 .settings, s .pre .1, part _ (short (c .before)))
 
 put-space-requires : tie.Need-put-space-requires
 unfolding zeros
 put-space-requires c κs =
-    let f = c .before .before .before .before in
-    let s = f .before .before .before in
+    let u = c .before .before .before in
+    let s = u .before .before .before in
     let a = s .args in
-    subst (λ m. DigitRows (a .n) (a .k) (m ++ drop (a .k * a .n) zeros)) (sym (f .unrank .ensures .0))
+    subst (λ m. DigitRows (a .n) (a .k) (m ++ drop (a .k * a .n) zeros)) (sym (drawn-is u))
     (digit-rows (a .q) (a .n) (a .k) (a .index .0) (s .pre .0 .settings) (s .pre .1) (drop (a .k * a .n) zeros))
 
 same-length : tie.Need-same-length
@@ -143,13 +102,13 @@ returns : tie.Need-returns
 unfolding zeros
 returns c =
     let p = c .before .before in
-    let r = p .before .before in
-    let f = r .before .before .before in
-    let s = f .before .before .before in
+    let u = p .before .before .before .before in
+    let s = u .before .before .before in
     let a = s .args in
     composed-line (a .buffer .now)
-    (linePieces (a .index .0) (r .rank .result .0) (rowsText (a .n) (a .k) (f .unrank .last .0 ++ drop (a .k * a .n) zeros)))
-    (listingLine (a .q) (a .n) (a .k) (a .index .0)) _ _ (line r)
+    (linePieces (a .index .0) (u .unrank-indexes .result .ferrers .0)
+    (rowsText (a .n) (a .k) (u .unrank-indexes .last .0 ++ drop (a .k * a .n) zeros)))
+    (listingLine (a .q) (a .n) (a .k) (a .index .0)) _ _ (line u)
     (omega (arith, s .pre .2, line-short (a .q) (a .n) (a .k) (a .index .0) (s .pre .0) (s .pre .1))) (p .put-space .ensures)
 
 pub write-space-spec : {M : Type 1} → statement M
@@ -158,11 +117,8 @@ write-space-spec =
     (tie.spec
     mul-size
     array-borrow-prefix-entries
-    slice-aggregate-unrank
-    unrank-requires
-    array-share-prefix-entries
-    slice-aggregate-rank
-    rank-requires
+    slice-aggregate-unrank-indexes
+    unrank-indexes-requires
     put-space-requires
     same-length
     returns)
