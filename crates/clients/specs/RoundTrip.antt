@@ -16,10 +16,10 @@ use Rattle.reduce.specs.Reduce.{spaceOf}
 use Rattle.receive.specs.Answer.{receivedNumber}
 use Rattle.receive.specs.declared.Received.the-variants.{Done}
 use Rattle.pandrwyg.specs.Exported.{answerSize, bytesOf, answerBytes, leftBytes, exportedOf, exportedBytes}
-use Rattle.recovery.specs.Demand.{littleEndian}
-use Rattle.recovery.specs.Promises.{receive-agrees}
-use Rattle.recovery.specs.laws.Whole.{drawn-bytes-received}
-use Rattle.recovery.specs.laws.LittleEndian.{little-endian}
+use Rattle.promise_recovery.specs.Demand.{littleEndian}
+use Rattle.promise_recovery.specs.Promises.{receive-agrees}
+use Rattle.promise_recovery.specs.laws.Whole.{drawn-bytes-received}
+use Rattle.promise_recovery.specs.laws.LittleEndian.{little-endian}
 
 module _ (q n k t i : ℕ) (b : List ℕ) (drawn : drawRefusal q n k t i (length b) ≡ 0) where
   abbrev left : List ℕ

@@ -22,7 +22,7 @@ ghost use Rattle.receiver.specs.Receiver.{lentReceiver, lentAnswer, takenAs, cl
 ghost use Rattle.spaces.specs.Spaces.{jointDimension, commonDimension};
 ghost use Rattle.pool.specs.Pool.{poolRefusal, poolOf, jointBuffer, commonBuffer, poolNumber, poolJoint, poolCommon};
 ghost use Rattle.pandrwyg.specs.Exported.{answerBytes, exportedOf, exportedNumber, exportedBytes};
-ghost use Rattle.recovery.specs.Demand.{littleEndian};
+ghost use Rattle.promise_recovery.specs.Demand.{littleEndian};
 ghost use Rattle.settings_line.specs.SettingsLine.{parsed};
 ghost use Rattle.listing.specs.Steps.{begun, chunkOf, nextState};
 ghost use Rattle.listing.specs.Front.{written};

@@ -4,7 +4,7 @@ use lib.ListN.{length, take}
 use Rattle.matrix.specs.Matrix.{identifying}
 use Rattle.receive.specs.Answer.{receivedNumber}
 use Rattle.pandrwyg.specs.Exported.{answerBytes, exportedOf, exportedBytes}
-use Rattle.recovery.specs.Demand.{littleEndian}
+use Rattle.promise_recovery.specs.Demand.{littleEndian}
 use Rattle.clients.specs.RoundTrip.{round-trip}
 use borrow.Author.Needs.{needs}
 use Rattle.clients.proofs.round_trip.Statement.{statement}

@@ -1,2 +1,0 @@
--- batch_recovery: records that are drawn in one call come back, and list every matrix once.
-pub mod Theorem

@@ -1,2 +1,0 @@
--- conversion: that every drawn matrix has a number in the other numbering, and what that makes of Convert.
-pub mod Conversion

@@ -1,6 +1,0 @@
--- pool_recovery: what pooling two receivers promises.
-pub mod Pooling
-pub mod Spaces
-pub mod Theorem
-pub mod Flat
-pub mod laws
