@@ -7,7 +7,7 @@
 #   items[file], item[file, i]      the items of a file, in their order; key = file SUBSEP name
 #   text[key], uses[key], head[key] what is printed of it, the words that it uses, and its section's head
 #   bound[key]                      the words that it binds itself
-#   meaning[key], entry[key]        its entry in the glossary at the file's head, and that entry's number
+#   meaning[key]                    the number of its entry in the glossary at the file's head; entry_text[file, number] that entry
 #   from[file, word]                the key that an imported word stands for; kit[file, word] the toolchain's name
 
 # The words of a line of antt or of a contract; a word that begins with a dot is a field.
@@ -202,7 +202,6 @@ function paragraph(file,    i, start, depth, name, key, line, statement, comment
         }
         if (!statement) continue
         text[key] = text[key] para[i] "\n"
-        lines[key]++
         if (line ~ /^--/) continue
         uses[key] = uses[key] words(para[i])
         bound[key] = bound[key] binds(para[i])
@@ -217,8 +216,8 @@ function paragraph(file,    i, start, depth, name, key, line, statement, comment
             owner[file, line] = key
         }
     }
-    for (i = 1; i <= level; i++) head[key] = head[key] SUBSEP outer[i]
     for (i = 1; i <= level; i++) {
+        head[key] = head[key] outer[i]
         uses[key] = uses[key] words(outer[i])
         bound[key] = bound[key] binds(outer[i])
     }
@@ -365,7 +364,7 @@ FILENAME ~ /\.rt$/ {
         kind[key] = "function"
         text[key] = note
         if (note ~ /#\[no_mangle\]/ && FILENAME ~ /crates\/pandrwyg\//) call[++calls] = "pandrwyg::" name
-        head[key] = within == "" ? "" : SUBSEP within
+        head[key] = within
         open = "function"
         ensuring = 0
     } else if (match(line, /^(pub )?(struct|enum|const) [A-Za-z_0-9]+/)) {
@@ -479,11 +478,7 @@ function place(file,    out) {
 function show(file, name,    key, e) {
     key = file SUBSEP name
     if (shown++) print ""
-    if (head[key] != last_head && head[key] != "") {
-        e = head[key]
-        sub(/^[^\n]*\034/, "", e)
-        printf "%s", e
-    }
+    if (head[key] != last_head) printf "%s", head[key]
     last_head = head[key]
     if (key in meaning) {
         e = meaning[key]
@@ -492,7 +487,7 @@ function show(file, name,    key, e) {
     } else if (key in exported && above[key] == "")
         fail("no sentence tells what this is: " file " " name)
     printf "%s%s", above[key], text[key]
-    sum += split(text[key], scratch_lines, "\n") - 1
+    sum += gsub(/\n/, "\n", text[key])
 }
 
 # Prints the items of a file that are reached, and not at the front, of one kind.
@@ -510,10 +505,7 @@ function show_file(file, which,    i, key, any) {
         }
         show(file, item[file, i])
     }
-    if (any) {
-        print "```"
-        files++
-    }
+    if (any) print "```"
 }
 
 END {
