@@ -1,20 +1,23 @@
 -- What Start, Take and Close answer for every input, and the receiver that each hands back or leaves. Document 01:
---   Setup            == what a receiver is started with: the settings; setup q n k == those that Start gets
---   Offer            == what is offered to Take: a row; offer row == the one that Take gets
+--   Setup            == what a receiver is started with: the settings and, order 8, the pack number; setup q n k pack == those that Start gets
+--   Offer            == what is offered to Take: a row, for a pack; offer pack row == the one that Take gets
 --   setupOf r        == what the receiver r was started with, by its fields
---   setupRefusal s   == the refusal of the settings in s: 1, 2 or 3, or 0
+--   setupRefusal s   == the refusal of the settings in s: 1, 2 or 3, or 0; any pack number is accepted
 --   noSetup          == all zeros: what the receiver of a refused start has
 --   made s d entries == the receiver of this setup, dimension and entries
 --   empty s          == a receiver with the setup, 256 entries all zero, and dimension 0
---   startOf s        == "Start a receiver: 1, 2, 3; a refused start gives a receiver of all zeros."
+--   startOf s        == "Start a receiver: 1, 2, 3; a refused start gives a receiver of all zeros." Order 8: "A receiver gets a pack
+--                       number, 0 to 65535, at its start .. a refused start has pack number 0."
 --   startNumber      == document 01's refusal number of what Start hands back
 --   wellFormed r     == the test that Take and Close make before anything else: the settings are accepted, the dimension is at most n, the
---                       first dimension×n entries are a reduced matrix, and all other entries are 0 (below 1). The theorem
---                       `reachable-exactly-well-formed` shows that it holds exactly for those that an accepted Start and Takes leave
+--                       first dimension×n entries are a reduced matrix, and all other entries are 0 (below 1). Order 8: "Any pack number
+--                       is valid in a receiver." The theorem `reachable-exactly-well-formed` shows that it holds exactly for those that
+--                       an accepted Start and Takes leave
 --   heldRows r       == the rows that the receiver holds
 --   holding s rows   == the receiver with the setup that holds the reduced rows of `rows`
 --   takeRefusal      == "Take one row into a receiver: 14 if the receiver is none that Start and Take can leave after an accepted Start;
---                       4 if the row isn't n bytes; 6."
+--                       4 if the row isn't n bytes; 6." Order 8: "It refuses a row of another pack with 17, placed after 14 and before
+--                       4."
 --   isZero row       == the test that the row is zero: that every entry of it is 0 (below 1)
 --   takeOf r o       == what Take hands back: the receiver with the row taken in, and, by order 5, ""idle" for an accepted row of zeros";
 --                       for another, "raised" if the dimension grew, "held" if not; "A refused row gives only the number, and the receiver
@@ -35,7 +38,7 @@ use Prim.Native.Nat.{ℕ, _*_}
 use lib.Dec.{eqb, ltb, leb}
 use lib.ListN.{length, take, drop, replicate}
 use Rattle.basics.specs.Choice.{pick}
-use Rattle.refusal.specs.Refusal.{receiverRefusal, lengthRefusal, entryRefusal, numberingRefusal}
+use Rattle.refusal.specs.Refusal.{receiverRefusal, packRefusal, lengthRefusal, entryRefusal, numberingRefusal}
 use Rattle.refusal.specs.Refusal.{refuseUnless, first, unlessRefused}
 use Rattle.settings.specs.Settings.{settingsRefusal}
 use Rattle.matrix.specs.Matrix.{entriesBelow, isReduced}
@@ -56,27 +59,29 @@ pub record Setup : Type 0 where
   pub q : ℕ
   pub n : ℕ
   pub k : ℕ
+  pub pack : ℕ
 
 pub record Offer : Type 0 where
+  pub pack : ℕ
   pub row : List ℕ
 
-abbrev pub setup : ℕ → ℕ → ℕ → Setup
-setup q n k = record { q = q; n = n; k = k }
+abbrev pub setup : ℕ → ℕ → ℕ → ℕ → Setup
+setup q n k pack = record { q = q; n = n; k = k; pack = pack }
 
-abbrev pub offer : List ℕ → Offer
-offer row = record { row = row }
+abbrev pub offer : ℕ → List ℕ → Offer
+offer pack row = record { pack = pack; row = row }
 
 abbrev pub setupOf : Receiver → Setup
-setupOf r = record { q = r .q; n = r .n; k = r .k }
+setupOf r = record { q = r .q; n = r .n; k = r .k; pack = r .pack }
 
 abbrev pub setupRefusal : Setup → ℕ
 setupRefusal s = settingsRefusal (s .q) (s .n) (s .k)
 
 abbrev pub noSetup : Setup
-noSetup = record { q = 0; n = 0; k = 0 }
+noSetup = record { q = 0; n = 0; k = 0; pack = 0 }
 
 abbrev pub made : Setup → ℕ → List ℕ → Receiver
-made s d entries = record { entries = entries; q = s .q; n = s .n; k = s .k; dimension = d }
+made s d entries = record { entries = entries; q = s .q; n = s .n; k = s .k; dimension = d; pack = s .pack }
 
 abbrev pub empty : Setup → Receiver
 empty s = made s 0 (replicate 256 0)
@@ -113,6 +118,7 @@ unfoldable pub takeRefusal : Receiver → Offer → ℕ
 takeRefusal r o =
     first
     (refuseUnless (wellFormed r) receiverRefusal
+    ∷ refuseUnless (eqb (o .pack) (r .pack)) packRefusal
     ∷ refuseUnless (eqb (length (o .row)) (r .n)) lengthRefusal
     ∷ refuseUnless (entriesBelow (r .q) (o .row)) entryRefusal
     ∷ [])

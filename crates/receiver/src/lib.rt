@@ -1,6 +1,7 @@
 // The receiver: the reduced rows of all rows taken so far, and the settings.
 ghost use mathlib.Core.Path.{_≡_};
 ghost use mathlib.Core.Bool.{false};
+ghost use Prim.Native.Nat.{ℕ};
 ghost use lib.ListN.{length};
 ghost use Rattle.basics.specs.Choice.{pick};
 ghost use Rattle.matrix.specs.Matrix.{identifying};
@@ -12,13 +13,14 @@ ghost use Rattle.receiver.specs.laws.TakeAccepted.{TakeAccepted};
 use receive::Received;
 use reduce::Space;
 
-// The first n×n entries hold the reduced rows, then zeros; so are all others.
+// The first n×n entries hold the reduced rows, then zeros; so are all others. The pack is the one whose rows are taken.
 pub struct Receiver {
     pub entries: [u8; 256],
     pub q: u64,
     pub n: u64,
     pub k: u64,
     pub dimension: u64,
+    pub pack: u16,
 }
 
 // What Start answers: a receiver, and the refusal or 0.
@@ -42,8 +44,8 @@ pub struct Taken {
 }
 
 // A receiver with this setup that holds no rows.
-pub fn empty_receiver(q: u64, n: u64, k: u64) -> Receiver
-    ensures { λ r. ⌜ r ≡ empty (setup q n k) ⌝ }
+pub fn empty_receiver(q: u64, n: u64, k: u64, pack: u16) -> Receiver
+    ensures { λ r. ⌜ r ≡ empty (setup q n k pack) ⌝ }
 {
     Receiver {
         entries: [0u8; 256],
@@ -51,23 +53,24 @@ pub fn empty_receiver(q: u64, n: u64, k: u64) -> Receiver
         n,
         k,
         dimension: 0,
+        pack,
     }
 }
 
-// Start: a receiver that holds no rows. Refuses 1, 2, 3, with a receiver of all zeros.
-pub fn start(q: u64, n: u64, k: u64) -> Started
-    ensures { λ r. ⌜ r ≡ startOf (setup q n k) ⌝ }
-    ensures { λ r. ⌜ startNumber r ≡ setupRefusal (setup q n k) ⌝ }
+// Start: a receiver that belongs to the pack and holds no rows. Refuses 1, 2, 3, with a receiver of all zeros.
+pub fn start(q: u64, n: u64, k: u64, pack: u16) -> Started
+    ensures { λ r. ⌜ r ≡ startOf (setup q n k pack) ⌝ }
+    ensures { λ r. ⌜ startNumber r ≡ setupRefusal (setup q n k pack) ⌝ }
 {
     let refusal = settings::settings_refusal(q, n, k);
     if refusal != 0 {
         return Started {
-            receiver: empty_receiver(0, 0, 0),
+            receiver: empty_receiver(0, 0, 0, 0),
             refusal,
         };
     }
     Started {
-        receiver: empty_receiver(q, n, k),
+        receiver: empty_receiver(q, n, k, pack),
         refusal: 0,
     }
 }
@@ -91,13 +94,13 @@ struct TakeTested {
     zero: bool,
 }
 
-// Whether the receiver of these settings, dimension and entries is one that Start and Take can leave after an accepted Start. The
-// dimension is known to be at most n, and n at most 16, before the two are multiplied.
+// Whether the receiver of these settings, dimension and entries, whatever its pack, is one that Start and Take can leave after an accepted
+// Start. The dimension is known to be at most n, and n at most 16, before the two are multiplied.
 fn well_formed(q: u64, n: u64, k: u64, dimension: u64, entries: &[u8]) -> Formed
     requires { ⌜ length (now entries) ≡ 256 ⌝ }
-    ensures { λ r. ⌜ (r .formed ≡ wellFormed (made (setup q n k) dimension (now (entries .entry))))
-        × (r .vector ≡ pick (wellFormed (made (setup q n k) dimension (now (entries .entry))))
-        (identifying n dimension (used (made (setup q n k) dimension (now (entries .entry))))) 0) ⌝ }
+    ensures { λ r. ⌜ ((pack : ℕ) → (r .formed ≡ wellFormed (made (setup q n k pack) dimension (now (entries .entry))))
+        × (r .vector ≡ pick (wellFormed (made (setup q n k pack) dimension (now (entries .entry))))
+        (identifying n dimension (used (made (setup q n k pack) dimension (now (entries .entry))))) 0)) ⌝ }
 {
     if n < dimension {
         return Formed {
@@ -142,8 +145,8 @@ impl Receiver {
     }
 
     // The first refusal of Take that applies; 0 where none does. The row's entries are looked at once.
-    fn take_refusal(self, row: &[u8]) -> TakeTested
-        ensures { λ r. ⌜ (r .refusal ≡ takeRefusal self (offer (now (row .entry))))
+    fn take_refusal(self, pack: u16, row: &[u8]) -> TakeTested
+        ensures { λ r. ⌜ (r .refusal ≡ takeRefusal self (offer pack (now (row .entry))))
             × (r .vector ≡ pick (wellFormed self) (identifying (self .n) (self .dimension) (used self)) 0)
             × (r .refusal ≡ 0 → r .zero ≡ isZero (now (row .entry))) ⌝ }
     {
@@ -153,6 +156,13 @@ impl Receiver {
         if !found.formed {
             return TakeTested {
                 refusal: refusal::RECEIVER,
+                vector,
+                zero: false,
+            };
+        }
+        if pack != self.pack {
+            return TakeTested {
+                refusal: refusal::PACK,
                 vector,
                 zero: false,
             };
@@ -204,10 +214,10 @@ impl Receiver {
 
     // The row taken in; every test has been made, found the receiver's identifying vector, and the row not zero.
     fn taken_in(self, row: &[u8], vector: u16) -> Taken
-        requires { ⌜ TakeAccepted self (offer (now row))
+        requires { ⌜ TakeAccepted self (offer (self .pack) (now row))
             × (isZero (now row) ≡ false)
             × (vector ≡ identifying (self .n) (self .dimension) (used self)) ⌝ }
-        ensures { λ r. ⌜ r ≡ takenIn self (offer (now (row .entry))) ⌝ }
+        ensures { λ r. ⌜ r ≡ takenIn self (offer (self .pack) (now (row .entry))) ⌝ }
     {
         let width = self.n as usize;
         let size = width * width;
@@ -239,11 +249,12 @@ impl Receiver {
     }
 
     // Take: the receiver with the row taken in, and whether the dimension grew, the row was held already, or the row is zero and so idle.
-    // Refuses 14, 4 (the row is not n bytes), 6. Unless the dimension grew, the receiver is handed back unchanged.
-    pub fn take(self, row: &[u8]) -> Taken
-        ensures { λ r. ⌜ (r ≡ takeOf self (offer (now (row .entry)))) × TakeTells self (offer (now (row .entry))) r ⌝ }
+    // Refuses 14, 17 (the row is offered for another pack), 4 (the row is not n bytes), 6. Unless the dimension grew, the receiver is handed
+    // back unchanged.
+    pub fn take(self, pack: u16, row: &[u8]) -> Taken
+        ensures { λ r. ⌜ (r ≡ takeOf self (offer pack (now (row .entry)))) × TakeTells self (offer pack (now (row .entry))) r ⌝ }
     {
-        let tested = self.take_refusal(row);
+        let tested = self.take_refusal(pack, row);
         if tested.refusal != 0 {
             return Taken {
                 receiver: self,
@@ -280,13 +291,13 @@ impl Receiver {
 }
 
 // Take on a lent receiver: copies it out, takes the row into the copy, and stores that back.
-pub fn take_lent(r: &mut Receiver, row: &[u8]) -> TakeAnswer
-    ensures { λ answer. ⌜ (answer ≡ lentAnswer (now (r .entry)) (offer (now (row .entry))))
-        × TakeTells (now (r .entry)) (offer (now (row .entry)))
-        (takenAs (lentReceiver (now (r .entry)) (offer (now (row .entry)))) answer) ⌝ }
-    ensures { λ _. ⌜ now (r .exit) ≡ lentReceiver (now (r .entry)) (offer (now (row .entry))) ⌝ }
+pub fn take_lent(r: &mut Receiver, pack: u16, row: &[u8]) -> TakeAnswer
+    ensures { λ answer. ⌜ (answer ≡ lentAnswer (now (r .entry)) (offer pack (now (row .entry))))
+        × TakeTells (now (r .entry)) (offer pack (now (row .entry)))
+        (takenAs (lentReceiver (now (r .entry)) (offer pack (now (row .entry)))) answer) ⌝ }
+    ensures { λ _. ⌜ now (r .exit) ≡ lentReceiver (now (r .entry)) (offer pack (now (row .entry))) ⌝ }
 {
-    let t = (*r).take(row);
+    let t = (*r).take(pack, row);
     *r = t.receiver;
     t.answer
 }

@@ -67,9 +67,13 @@ receiverRefusal = 14
 
 -- 15 is retired by order 4, and is not given to another meaning
 
--- two receivers differ in q, n or k
+-- two receivers differ in q, n, k or pack number
 abbrev pub mismatchRefusal : ℕ
 mismatchRefusal = 16
+
+-- the row is offered for another pack
+abbrev pub packRefusal : ℕ
+packRefusal = 17
 
 unfoldable pub refuseUnless : Bool → ℕ → ℕ
 refuseUnless holds refusal = pick holds 0 refusal

@@ -28,3 +28,5 @@ pub const ROW_COUNT: u32 = 13;
 pub const RECEIVER: u32 = 14;
 
 pub const MISMATCH: u32 = 16;
+
+pub const PACK: u32 = 17;

@@ -2,7 +2,7 @@
 -- bound the entries that are used before these are looked at.
 use mathlib.Core.Path.{_≡_, _∙_, sym, ap}
 use mathlib.Core.Bool.{Bool, true, not}
-use Prim.Native.Nat.{_*_, _-_, _≤_}
+use Prim.Native.Nat.{ℕ, _*_, _-_, _≤_}
 use native.Mathlib.Omega.{arith}
 use lib.ListN.{length, length-drop}
 use lib.Seq.{length-take-le, take-all}
@@ -25,9 +25,13 @@ tells : (r : Receiver) (b : Bool) → b ≡ wellFormed r → pick b (identifying
     ≡ pick (wellFormed r) (identifying (r .n) (r .dimension) (used r)) 0
 tells r b e = ap (λ x. pick x (identifying (r .n) (r .dimension) (used r)) 0) e
 
--- the receiver that is tested
+-- the receiver that is tested, with a pack
+abbrev packed : tie.Start → ℕ → Receiver
+packed s pack = let a = s .args in made (setup (a .q) (a .n) (a .k) pack) (a .dimension) (a .entries .now)
+
+-- and with any: no test reads it
 abbrev tested : tie.Start → Receiver
-tested s = let a = s .args in made (setup (a .q) (a .n) (a .k)) (a .dimension) (a .entries .now)
+tested s = packed s 0
 
 settled : (c : tie.Else2) → let r = tested (c .before .before .before .before) in setupRefusal (setupOf r) ≡ 0
 settled c = sym (c .before .settings-refusal .ensures) ∙ c .if2 .left
@@ -77,13 +81,16 @@ rest-told c =
     ∙ ap (entriesBelow 1) (take-all (length (r .entries) - r .dimension * r .n) (unused r) (simp length-drop (omega arith)))
 
 returns : tie.Need-returns
-returns c = let e = formed-dimension (tested (c .before .before)) (c .if1 .taken) in (e, tells _ _ e)
+returns c pack = let e = formed-dimension (packed (c .before .before) pack) (c .if1 .taken) in (e, tells _ _ e)
 
 settings-refusal-requires : tie.Need-settings-refusal-requires
 settings-refusal-requires c κs = search needs
 
 returns-2 : tie.Need-returns-2
-returns-2 c = let e = formed-settings _ (λ z. c .if2 .taken (c .before .settings-refusal .ensures ∙ z)) in (e, tells _ _ e)
+returns-2 c pack =
+    let r = packed (c .before .before .before .before) pack in
+    let e = formed-settings r (λ z. c .if2 .taken (c .before .settings-refusal .ensures ∙ z)) in
+    (e, tells r _ e)
 
 mul-size : tie.Need-mul-size
 mul-size c = omega (arith, short c)
@@ -98,10 +105,11 @@ oversized-requires : tie.Need-oversized-requires
 oversized-requires c κs = search needs
 
 returns-3 : tie.Need-returns-3
-returns-3 c =
+returns-3 c pack =
     let b = begun (c .before .before) in
-    let e = formed-entries _ (settled b) (low b) (entries-told (c .before) ∙ ap not (c .if3 .taken)) in
-    (e, tells _ _ e)
+    let r = packed (b .before .before .before .before) pack in
+    let e = formed-entries r (settled b) (low b) (entries-told (c .before) ∙ ap not (c .if3 .taken)) in
+    (e, tells r _ e)
 
 sub-entries-below : tie.Need-sub-entries-below
 sub-entries-below c = omega (arith, short (begun (c .before .before)))
@@ -116,27 +124,28 @@ entries-below-requires : tie.Need-entries-below-requires
 entries-below-requires c κs = search needs
 
 returns-4 : tie.Need-returns-4
-returns-4 c =
+returns-4 c pack =
     let e = c .before .before .before in
     let b = begun (e .before .before) in
+    let r = packed (b .before .before .before .before) pack in
     let z = sym (rest-told (c .before)) ∙ not-true _ (c .if4 .taken) in
-    let f = formed-rest _ (settled b) (low b) (entries-fit e) z in
-    (f, tells _ _ f)
+    let f = formed-rest r (settled b) (low b) (entries-fit e) z in
+    (f, tells r _ f)
 
 returns-5 : tie.Need-returns-5
-returns-5 c =
+returns-5 c pack =
     let e = c .before .before .before in
     let b = begun (e .before .before) in
-    let r = tested (b .before .before .before .before) in
+    let r = packed (b .before .before .before .before) pack in
     let walk = e .before .before .rows .ensures in
     let z = sym (rest-told (c .before)) ∙ not-false _ (c .if4 .left) in
-    let f = formed-reduced _ (settled b) (low b) (entries-fit e) z in (
+    let f = formed-reduced r (settled b) (low b) (entries-fit e) z in (
       ap (λ w. w .reduced) walk
           ∙ whole-rows 32 (r .q) (r .n) (r .dimension) (used r) (wide b) (part b) (entries-fit e)
           ∙ f,
       ap (λ w. w .vector) walk
           ∙ whole-vector 32 (r .q) (r .n) (r .dimension) (used r) (wide b) (part b) (entries-fit e)
-          ∙ tells _ _ f,
+          ∙ tells r _ f,
     )
 
 pub well-formed-spec : {M : Type 1} → statement M

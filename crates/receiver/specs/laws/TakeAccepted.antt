@@ -16,7 +16,7 @@ use lib.Dec.{T, eqb, ltb}
 use lib.ListN.{length}
 use Rattle.basics.specs.Choice.{pick}
 use Rattle.basics.specs.laws.Choice.{holds}
-use Rattle.refusal.specs.Refusal.{receiverRefusal, lengthRefusal, entryRefusal, numberingRefusal, refuseUnless}
+use Rattle.refusal.specs.Refusal.{receiverRefusal, packRefusal, lengthRefusal, entryRefusal, numberingRefusal, refuseUnless}
 use Rattle.refusal.specs.laws.First.{test-zero, test-passed, first-none, kept, done}
 use Rattle.matrix.specs.Matrix.{entriesBelow}
 use Rattle.matrix.specs.laws.Tests.{entries-below}
@@ -37,6 +37,7 @@ use Rattle.receiver.specs.declared.TakeAnswer.the-variants.{Raised, Held
 
 pub record TakeAccepted (r : Receiver) (o : Offer) : Type 0 where
   pub formed : wellFormed r ≡ true
+  pub own : o .pack ≡ r .pack
   pub sized : length (o .row) ≡ r .n
   pub below : T (entriesBelow (r .q) (o .row))
 
@@ -45,10 +46,13 @@ module _ (r : Receiver) (o : Offer) where
   unfolding takeRefusal
   take-accepted z =
       let entries = refuseUnless (entriesBelow (r .q) (o .row)) entryRefusal ∷ [] in
-      let f = test-zero (wellFormed r) receiverRefusal (refuseUnless (eqb (length (o .row)) (r .n)) lengthRefusal ∷ entries) tt z in
-      let l = test-zero (eqb (length (o .row)) (r .n)) lengthRefusal entries tt (f .1) in
+      let row = refuseUnless (eqb (length (o .row)) (r .n)) lengthRefusal ∷ entries in
+      let f = test-zero (wellFormed r) receiverRefusal (refuseUnless (eqb (o .pack) (r .pack)) packRefusal ∷ row) tt z in
+      let p = test-zero (eqb (o .pack) (r .pack)) packRefusal row tt (f .1) in
+      let l = test-zero (eqb (length (o .row)) (r .n)) lengthRefusal entries tt (p .1) in
       record {
         formed = f .0;
+        own = eqb-true (o .pack) (r .pack) (p .0);
         sized = eqb-true (length (o .row)) (r .n) (l .0);
         below = holds (entriesBelow (r .q) (o .row)) (test-zero (entriesBelow (r .q) (o .row)) entryRefusal [] tt (l .1) .0);
       }
@@ -56,10 +60,13 @@ module _ (r : Receiver) (o : Offer) where
   pub accepted-row : TakeAccepted r o → Row (r .q) (r .n) (o .row)
   accepted-row a = (a .sized, all-of 0 (o .row) (entries-below (r .q) (o .row) (a .below)))
 
-  pub take-unrefused : wellFormed r ≡ true → length (o .row) ≡ r .n → entriesBelow (r .q) (o .row) ≡ true → takeRefusal r o ≡ 0
+  pub take-unrefused : wellFormed r ≡ true → o .pack ≡ r .pack → length (o .row) ≡ r .n → entriesBelow (r .q) (o .row) ≡ true
+      → takeRefusal r o ≡ 0
   unfolding takeRefusal
-  take-unrefused w l e =
-      test-passed _ _ _ w ∙ test-passed _ _ _ (eq-eqb (length (o .row)) (r .n) l) ∙ test-passed _ _ _ e ∙ first-none
+  take-unrefused w p l e =
+      test-passed _ _ _ w ∙ test-passed _ _ _ (eq-eqb (o .pack) (r .pack) p) ∙ test-passed _ _ _ (eq-eqb (length (o .row)) (r .n) l)
+      ∙ test-passed _ _ _ e
+      ∙ first-none
 
   -- what the answers for a row taken in tell, where a zero row does not let the dimension grow
   accepted-number : (zero grew : Bool) → takeNumber (pick zero Idle (pick grew Raised Held)) ≡ 0

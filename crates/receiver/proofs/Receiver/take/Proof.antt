@@ -1,11 +1,11 @@
 -- `receiver::Receiver::take` meets its contract: a refusal hands the receiver back, and what is not refused is taken in.
-use mathlib.Core.Path.{_≡_, _∙_, ap, sym}
+use mathlib.Core.Path.{_≡_, _∙_, ap, sym, subst}
 use lib.ListN.{length}
 use Rattle.basics.specs.Choice.{pick}
 use Rattle.refusal.specs.laws.First.{kept, done}
 use Rattle.matrix.specs.Matrix.{identifying}
-use Rattle.receiver.specs.Receiver.{offer, used, isZero, takeRefusal, takeOf, takenAs}
-use Rattle.receiver.specs.laws.TakeAccepted.{take-accepted, zero-idle, take-told}
+use Rattle.receiver.specs.Receiver.{offer, used, isZero, takeRefusal, takenIn, takeOf, takenAs}
+use Rattle.receiver.specs.laws.TakeAccepted.{TakeAccepted, take-accepted, zero-idle, take-told}
 use Rattle.receiver.specs.declared.Taken.{Taken}
 use Rattle.receiver.specs.declared.TakeAnswer.the-variants.{Refused}
 use borrow.Author.Needs.{needs}
@@ -15,7 +15,7 @@ use Rattle.receiver.proofs.Receiver.take.Tie as tie
 whole : (c : tie.Start) → length (c .args .self .entries) ≡ 256
 whole c = search needs
 
-unrefused : (c : tie.Else1) → let a = c .before .before .before .before .args in takeRefusal (a .self) (offer (a .row .now)) ≡ 0
+unrefused : (c : tie.Else1) → let a = c .before .before .before .before .args in takeRefusal (a .self) (offer (a .pack) (a .row .now)) ≡ 0
 unrefused c = sym (c .before .before .take-refusal .ensures .0) ∙ c .if1 .left
 
 -- what was found of the row
@@ -49,10 +49,10 @@ taken-in-requires c κs =
     let t = c .before .before .before in
     let r = t .before .before .args .self in
     let known = ap (λ x. pick x (identifying (r .n) (r .dimension) (used r)) 0) (granted .formed) in
-    (granted, sym (zero (c .before)) ∙ c .if2 .left, t .take-refusal .ensures .1 ∙ known)
+    (subst (λ pack. TakeAccepted r (offer pack (t .before .before .args .row .now))) (granted .own) granted, sym (zero (c .before)) ∙ c .if2 .left, t .take-refusal .ensures .1 ∙ known)
 
 returns-3 : tie.Need-returns-3
-unfolding takeOf
+unfolding takeOf takenIn
 returns-3 c =
     let e = c .taken-in .ensures ∙ done _ _ _ (unrefused (c .before .before)) in
     (e, take-told _ _ (whole (c .before .before .before .before .before .before)) _ e)
