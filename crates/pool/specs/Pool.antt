@@ -2,8 +2,9 @@
 -- with equal q, n and k and writes two reduced matrices into lent n×n buffers: that of the smallest space containing both, and that of
 -- their common space, each with zeros after its rows. It answers both dimensions .. Pooling also hands back a receiver with the same
 -- settings that holds the smallest space. A refusal gives a receiver of all zeros and dimensions 0. It refuses with 14 for the first
--- receiver, then the second, then with 16 if q, n or k differ, then with 4 for a wrong buffer."
---   alike a b     == the test that two receivers have the same q, n and k
+-- receiver, then the second, then with 16 if q, n or k differ, then with 4 for a wrong buffer." Order 8: "Pooling's 16 now also covers
+-- differing packs, and the pooled receiver has the packs' common number."
+--   alike a b     == the test that two receivers have the same q, n and k, and belong to the same pack
 --   poolRefusal   == the refusals in their order, by the lengths of the two buffers; 0 where none applies
 --   poolOf        == what pooling hands back; jointBuffer, commonBuffer == the buffers afterwards
 --   poolNumber, poolJoint, poolCommon == the refusal number and the two dimensions of each case of the answer
@@ -23,7 +24,7 @@ use Rattle.pool.specs.declared.PoolAnswer.{PoolAnswer}
 use Rattle.pool.specs.declared.PoolAnswer.the-variants.{Done, Refused}
 
 unfoldable pub alike : Receiver → Receiver → Bool
-alike a b = eqb (a .q) (b .q) && (eqb (a .n) (b .n) && eqb (a .k) (b .k))
+alike a b = eqb (a .q) (b .q) && (eqb (a .n) (b .n) && (eqb (a .k) (b .k) && eqb (a .pack) (b .pack)))
 
 unfoldable pub poolRefusal : Receiver → Receiver → ℕ → ℕ → ℕ
 poolRefusal a b joint common =

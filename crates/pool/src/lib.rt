@@ -1,4 +1,4 @@
-// Pooling: two receivers with the same settings become one that holds the smallest space containing both.
+// Pooling: two receivers with the same settings and pack become one that holds the smallest space containing both.
 ghost use mathlib.Core.Path.{_≡_};
 ghost use mathlib.Core.Bool.{true};
 ghost use mathlib.Core.List.{_++_};
@@ -31,7 +31,7 @@ pub struct Pooled {
     pub answer: PoolAnswer,
 }
 
-// Whether two receivers have the same q, n and k.
+// Whether two receivers have the same q, n and k, and belong to the same pack.
 fn alike(a: Receiver, b: Receiver) -> bool
     ensures { λ r. ⌜ r ≡ alikeOf a b ⌝ }
 {
@@ -41,7 +41,10 @@ fn alike(a: Receiver, b: Receiver) -> bool
     if a.n != b.n {
         return false;
     }
-    a.k == b.k
+    if a.k != b.k {
+        return false;
+    }
+    a.pack == b.pack
 }
 
 // The first refusal of pooling that applies; 0 where none does.
@@ -161,7 +164,7 @@ fn joined(a: Receiver, b: Receiver) -> Receiver
 
 // Pool: writes the reduced matrices of the smallest space that contains both receivers' and of their common space, each with zeros after
 // its rows; hands back a receiver that holds the former, and both dimensions. Refuses 14 for the first receiver, then for the second, 16
-// (q, n or k differ), 4 (a buffer is not n×n bytes), and then hands back a receiver of all zeros and leaves both buffers.
+// (q, n, k or the packs differ), 4 (a buffer is not n×n bytes), and then hands back a receiver of all zeros and leaves both buffers.
 pub fn pool(a: Receiver, b: Receiver, joint: &mut [u8], common: &mut [u8]) -> Pooled
     ensures { λ r. ⌜ r ≡ poolOf a b (length (now (joint .entry))) (length (now (common .entry))) ⌝ }
     ensures { λ _. ⌜ now (joint .exit) ≡ jointBuffer a b (now (joint .entry)) (length (now (common .entry))) ⌝ }
@@ -175,7 +178,7 @@ pub fn pool(a: Receiver, b: Receiver, joint: &mut [u8], common: &mut [u8]) -> Po
     let refusal = pool_refusal(a, b, joint.len(), common.len());
     if refusal != 0 {
         return Pooled {
-            receiver: receiver::empty_receiver(0, 0, 0),
+            receiver: receiver::empty_receiver(0, 0, 0, 0),
             answer: PoolAnswer::Refused(refusal),
         };
     }

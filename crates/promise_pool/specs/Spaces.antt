@@ -31,7 +31,7 @@ use Rattle.promise_recovery.specs.Calls.{Reachable}
 use Rattle.promise_recovery.specs.laws.Reachable.{holding-reachable}
 use Rattle.pool.specs.Pool.{poolRefusal, pooled, poolOf, jointBuffer, commonBuffer, poolNumber, poolJoint, poolCommon}
 use Rattle.pool.specs.declared.Pooled.{Pooled}
-use Rattle.pool.specs.laws.PoolAccepted.{PoolAccepted, alike-sizes, pool-accepted, pool-told}
+use Rattle.pool.specs.laws.PoolAccepted.{PoolAccepted, alike-setups, pool-accepted, pool-told}
 use Rattle.pool.specs.declared.PoolAnswer.{PoolAnswer}
 use Rattle.pool.specs.laws.Pooling.{field-laws, first-held, second-held}
 
@@ -56,7 +56,7 @@ module _ (a b : Receiver) (whole-a : length (a .entries) ≡ 256) (whole-b : len
   ok = pool-accepted a b (length joint) (length common) unrefused
 
   sizes : (a .q ≡ b .q) × (a .n ≡ b .n) × (a .k ≡ b .k)
-  sizes = alike-sizes a b (ok .same)
+  sizes = alike-setups a b (ok .same)
 
   law : Laws (a .q)
   law = field-laws a b whole-a whole-b (ok .first) (ok .second) (ok .same)

@@ -7,10 +7,12 @@
 --   accepted r cs    == the rows of cs, in their order, for which Take named no refusal
 --   Reachable r      == an accepted Start leaves r, or a Take of a receiver that is reachable
 --   Unforged r cs    == no call of cs is refused 14
---   offered cs       == what cs offers to Take; fitting s os == the rows of os that have n entries, each below q
+--   offered cs       == what cs offers to Take
+--   fits s o         == the test that o is offered for the pack of s, and that its row has n entries, each below q
+--   fitting s os     == the rows of os that fit
 -- Assumes nothing.
 use mathlib.Core.Path.{_≡_}
-use mathlib.Core.Bool.{_&&_}
+use mathlib.Core.Bool.{Bool, _&&_}
 use mathlib.Core.List.{List, [], _∷_}
 use Prim.Native.Nat.{ℕ}
 use lib.Dec.{eqb}
@@ -68,6 +70,9 @@ offered (takeValue o ∷ cs) = o ∷ offered cs
 offered (takeLent o ∷ cs) = o ∷ offered cs
 offered (close t ∷ cs) = offered cs
 
+abbrev pub fits : Setup → Offer → Bool
+fits s o = eqb (o .pack) (s .pack) && (eqb (length (o .row)) (s .n) && entriesBelow (s .q) (o .row))
+
 unfoldable pub fitting : Setup → List Offer → List (List ℕ)
 fitting s [] = []
-fitting s (o ∷ os) = pick (eqb (length (o .row)) (s .n) && entriesBelow (s .q) (o .row)) (o .row ∷ fitting s os) (fitting s os)
+fitting s (o ∷ os) = pick (fits s o) (o .row ∷ fitting s os) (fitting s os)

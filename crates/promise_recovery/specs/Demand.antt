@@ -20,7 +20,8 @@
 --   Recovery s t i cs    == closing after the list cs answers so for the rows that were accepted
 --   Reception q n k t i rows == Receive of the rows answers so, by value and for C
 --   Demand s t D         == all of it, of what D draws; and of every list of calls, mixtures or not: "No call of the list is refused 14. A row is accepted
---                           when Take names no refusal for it, so here when it is n bytes, each below q."
+--                           when Take names no refusal for it, so here when it is n bytes, each below q." Order 8: "In the promise about
+--                           mixed rows, a row offered for another pack is one of the refused."
 -- Assumes nothing.
 use mathlib.Core.Path.{_≡_}
 use mathlib.Core.Logic.{_↔_}

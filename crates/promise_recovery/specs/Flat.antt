@@ -22,7 +22,7 @@ use Rattle.receive.specs.declared.Received.the-variants.{Done}
 use Rattle.receiver.specs.Receiver.{setup, closeOf}
 use Rattle.pandrwyg.specs.Exported.{answerSize, answerBytes, exportedNumber, exportedBytes}
 use Rattle.promise_recovery.specs.Calls.{Call, begun, after, accepted, offered, fitting, Unforged}
-use Rattle.promise_recovery.specs.Demand.{littleEndian}
+use Rattle.promise_recovery.specs.Demand.{littleEndian, Demand}
 use Rattle.promise_recovery.specs.Theorem.{demand-3}
 
 -- the refusal number and the index that an answer of Receive or Close tells
@@ -44,8 +44,7 @@ readsSpace bytes dimension vector = (getD bytes 8 0 ≡ dimension) × (littleEnd
 pub demand-3-flat :
     -- "Suppose settings are accepted and have N spaces. Then, in either numbering,
     (q n k t : ℕ) → settingsRefusal q n k ≡ 0 → isNumbering t ≡ true
-    → let s = setup q n k in
-    let D = drawing q n k t in
+    → let D = drawing q n k t in
     -- drawing 0 to N-1 lists
     (D .count ≡ gaussian q n k)
     × ((i : ℕ) → i < D .count → (b : List ℕ) → length b ≡ k * n
@@ -59,13 +58,16 @@ pub demand-3-flat :
     -- strictly rising in that numbering's order, the order told by comparing matrices alone.
     × ((i j : ℕ) → i < j → j < D .count → (a b : List ℕ) → length a ≡ k * n → length b ≡ k * n
     → D .order (D .leaves i a) (D .leaves j b))
-    -- (No call of a list is refused 14, and a row is accepted exactly when it is n bytes, each below q, mixture or not.)
-    × ((cs : List Call) → Unforged (begun s) cs × (accepted (begun s) cs ≡ fitting s (offered cs)))
+    -- (No call of a list is refused 14, and a row is accepted exactly when it is offered for the receiver's pack, whichever that is, and is
+    -- n bytes, each below q, mixture or not.)
+    × ((pack : ℕ) → let s = setup q n k pack in
+    (cs : List Call) → Unforged (begun s) cs × (accepted (begun s) cs ≡ fitting s (offered cs)))
     -- Draw any one of them,
     × ((i : ℕ) → i < D .count → (b : List ℕ) → length b ≡ k * n
     -- and let rows be mixed from its rows over the field, in whatever way and sequence. Then for every list of Take and Close calls on one
-    -- receiver, refused ones included, from a fresh Start with these settings, in which every row accepted is such a mixture:
-    → ((cs : List Call) → All (Mixed q n (rowsOf n k (D .leaves i b))) (accepted (begun s) cs)
+    -- receiver, refused ones included, from a fresh Start with these settings, (and any pack,) in which every row accepted is such a mixture:
+    → ((pack : ℕ) → let s = setup q n k pack in
+    (cs : List Call) → All (Mixed q n (rowsOf n k (D .leaves i b))) (accepted (begun s) cs)
     -- (the accepted rows have a dimension, at most k, and an identifying vector;)
     → ((d v : ℕ) × HasVector q n (accepted (begun s) cs) d v)
     × ((d : ℕ) → HasDimension q n (accepted (begun s) cs) d → d ≤ k)
@@ -97,20 +99,20 @@ pub demand-3-flat :
     × ((d v : ℕ) → HasVector q n rows d v → d < k → exportedBytes q n k t (length rows) (join rows) a ≡ answerBytes 0 d v)
     × ((d v : ℕ) → HasVector q n rows d v → readsSpace (exportedBytes q n k t (length rows) (join rows) a) d v))))
 demand-3-flat q n k t settings known =
-    let D = demand-3 (setup q n k) t settings known in
-    let L = D .listing in (
+    let D : (pack : ℕ) → Demand (setup q n k pack) t (drawing q n k t) = λ pack. demand-3 (setup q n k pack) t settings known in
+    let L = D 0 .listing in (
       refl,
       λ i h b l. (L .unrefused i h b l, L .reduced i h b l),
       L .every,
       L .once,
       L .rising,
-      λ cs. (D .unforged cs, D .fits cs),
+      λ pack cs. (D pack .unforged cs, D pack .fits cs),
       λ i h b l. (
-        λ cs mixed.
-            let R = D .recovery i h b l cs mixed in
+        λ pack cs mixed.
+            let R = D pack .recovery i h b l cs mixed in
             (R .answers .some, R .answers .never-more, R .answers .whole, R .typed, R .answers .fewer, R .answers .space),
         λ rows few mixed.
-            let R = D .reception i h b l rows few mixed in (
+            let R = D 0 .reception i h b l rows few mixed in (
               R .answers .some,
               R .answers .never-more,
               R .answers .whole,

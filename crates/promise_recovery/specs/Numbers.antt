@@ -55,8 +55,7 @@ pub record Numbers (q n k t : ℕ) : Type 0 where
       → (d : ℕ) (m : List ℕ) → Reduced q n d m → SameSpan q n (rowsOf n d m) rows
       → (receiveOf q n k t (length rows) (join rows) ≡ spaceAnswer q n k t d m)
       × (exportedOf q n k t (length rows) (join rows) answerSize ≡ spaceAnswer q n k t d m)
-  pub closed :
-      let s = setup q n k in
+  pub closed : (pack : ℕ) → let s = setup q n k pack in
       (cs : List Call) (d : ℕ) (m : List ℕ) → Reduced q n d m → SameSpan q n (rowsOf n d m) (accepted (begun s) cs)
       → closeOf (after (begun s) cs) t ≡ spaceAnswer q n k t d m
 
@@ -111,13 +110,13 @@ module _ (q n k : ℕ) (settings : settingsRefusal q n k ≡ 0) where
               exported-rows q n k t settings known rows h few ∙ spanned t rows h d m R s,
             );
         closed =
-            λ cs d m R s.
-            let x = setup q n k in
+            λ pack cs d m R s.
+            let x = setup q n k pack in
             close-after x t settings known cs ∙ spanned t (accepted (begun x) cs) (accepted-rows x settings cs) d m R s;
       }
 
 pub demand-2-flat :
-    (q n k t : ℕ) → settingsRefusal q n k ≡ 0 → isNumbering t ≡ true → let s = setup q n k in
+    (q n k t : ℕ) → settingsRefusal q n k ≡ 0 → isNumbering t ≡ true →
     -- "A reduced matrix gets the extended or Ferrers index that Silberstein and Etzion define,
     ((m : List ℕ) → Reduced q n k m → numberOf q n k t m ≡ Done (indexIn t (indexOf q n k t m)))
     -- and an index below the count gets the matrix with that index.
@@ -134,7 +133,8 @@ pub demand-2-flat :
     → (d : ℕ) (m : List ℕ) → Reduced q n d m → SameSpan q n (rowsOf n d m) rows
     → (receiveOf q n k t (length rows) (join rows) ≡ spaceAnswer q n k t d m)
     × (exportedOf q n k t (length rows) (join rows) answerSize ≡ spaceAnswer q n k t d m))
-    × ((cs : List Call) (d : ℕ) (m : List ℕ) → Reduced q n d m → SameSpan q n (rowsOf n d m) (accepted (begun s) cs)
+    × ((pack : ℕ) → let s = setup q n k pack in
+    (cs : List Call) (d : ℕ) (m : List ℕ) → Reduced q n d m → SameSpan q n (rowsOf n d m) (accepted (begun s) cs)
     → closeOf (after (begun s) cs) t ≡ spaceAnswer q n k t d m)
 demand-2-flat q n k t settings known =
     let D = demand-2 q n k settings t known in

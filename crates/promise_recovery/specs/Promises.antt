@@ -95,12 +95,11 @@ module _ (q n k t : ℕ) (settings : settingsRefusal q n k ≡ 0) (known : isNum
       ap told (sym (space-many q n k t (dimension q n rows) (reducedOf q n rows) (omega arith) (omega arith)))
       ∙ ap₂ (λ x y. record { number = 9; index = 0; dimension = x; vector = y }) (e .0) (e .1)
 
-  pub close-more :
-      let s = setup q n k in
+  pub close-more : (pack : ℕ) → let s = setup q n k pack in
       (cs : List Call) (d v : ℕ) → HasVector q n (accepted (begun s) cs) d v → k < d
       → told (closeOf (after (begun s) cs) t) ≡ record { number = 9; index = 0; dimension = d; vector = v }
-  close-more cs d v has g =
-      let s = setup q n k in
+  close-more pack cs d v has g =
+      let s = setup q n k pack in
       ap told (close-after s t settings known cs) ∙ more (accepted (begun s) cs) (accepted-rows s settings cs) d v has g
 
   pub receive-more : (rows : List (List ℕ)) → All (Row q n) rows → length rows ≤ mostRows → (d v : ℕ) → HasVector q n rows d v → k < d

@@ -1,4 +1,4 @@
--- `pool::alike` meets its contract: the three comparisons, one after the other.
+-- `pool::alike` meets its contract: the four comparisons, one after the other.
 use borrow.Author.Tests.{eq-eqb, ne-eqb}
 use Rattle.pool.specs.Pool.{alike}
 use Rattle.pool.proofs.alike.Statement.{statement}
@@ -14,7 +14,16 @@ returns-2 c = rw (eq-eqb _ _ (c .before .before .before .if1 .left), ne-eqb _ _ 
 
 returns-3 : tie.Need-returns-3
 unfolding alike
-returns-3 c = let e = c .before .before in rw (eq-eqb _ _ (e .before .before .before .if1 .left), eq-eqb _ _ (e .if2 .left))
+returns-3 c =
+    let e = c .before .before .before in
+    rw (eq-eqb _ _ (e .before .before .before .if1 .left), eq-eqb _ _ (e .if2 .left), ne-eqb _ _ (c .if3 .taken))
+
+returns-4 : tie.Need-returns-4
+unfolding alike
+returns-4 c =
+    let f = c .before .before in
+    let e = f .before .before .before in
+    rw (eq-eqb _ _ (e .before .before .before .if1 .left), eq-eqb _ _ (e .if2 .left), eq-eqb _ _ (f .if3 .left))
 
 pub alike-spec : {M : Type 1} → statement M
-alike-spec = tie.close (tie.spec returns returns-2 returns-3)
+alike-spec = tie.close (tie.spec returns returns-2 returns-3 returns-4)

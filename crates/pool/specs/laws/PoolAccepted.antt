@@ -27,14 +27,16 @@ pub record PoolAccepted (a b : Receiver) (joint common : ℕ) : Type 0 where
   pub common-room : common ≡ a .n * a .n
 
 module _ (a b : Receiver) where
-  pub alike-sizes : alike a b ≡ true → (a .q ≡ b .q) × (a .n ≡ b .n) × (a .k ≡ b .k)
+  pub alike-setups : alike a b ≡ true → (a .q ≡ b .q) × (a .n ≡ b .n) × (a .k ≡ b .k) × (a .pack ≡ b .pack)
   unfolding alike
-  alike-sizes e =
+  alike-setups e =
       let t = holds (alike a b) e in
-      let s = and-right (eqb (a .q) (b .q)) _ t in (
+      let s = and-right (eqb (a .q) (b .q)) _ t in
+      let r = and-right (eqb (a .n) (b .n)) _ s in (
         eqb→eq _ _ (and-left (eqb (a .q) (b .q)) _ t),
         eqb→eq _ _ (and-left (eqb (a .n) (b .n)) _ s),
-        eqb→eq _ _ (and-right (eqb (a .n) (b .n)) _ s),
+        eqb→eq _ _ (and-left (eqb (a .k) (b .k)) _ r),
+        eqb→eq _ _ (and-right (eqb (a .k) (b .k)) _ r),
       )
 
   module _ (joint common : ℕ) where

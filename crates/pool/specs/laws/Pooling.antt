@@ -31,7 +31,7 @@ use Rattle.receiver.specs.laws.Held.{settings-laws, held-used, held-kept}
 use Rattle.receiver.specs.laws.Sound.{Sound, sound, used-fit}
 use Rattle.receiver.specs.declared.Receiver.{Receiver}
 use Rattle.pool.specs.Pool.{alike}
-use Rattle.pool.specs.laws.PoolAccepted.{alike-sizes}
+use Rattle.pool.specs.laws.PoolAccepted.{alike-setups}
 use Rattle.double_rows.specs.laws.Fill.{padded-front, paste-whole}
 
 module _ (r : Receiver) (size : length (r .entries) ≡ 256) (s : Sound r) where
@@ -59,7 +59,7 @@ module _ (a b : Receiver) (whole-a : length (a .entries) ≡ 256) (whole-b : len
   narrow = accepted (a .q) (a .n) (a .k) (sound-a .settings) .narrow
 
   equal-n : b .n ≡ a .n
-  equal-n = sym (alike-sizes a b same .1)
+  equal-n = sym (alike-setups a b same .1)
 
   pub first-low : a .dimension ≤ a .n
   first-low = sound-a .fits
@@ -94,7 +94,7 @@ module _ (a b : Receiver) (whole-a : length (a .entries) ≡ 256) (whole-b : len
 
   pub second-held : All (Row (a .q) (a .n)) (heldRows b)
   second-held =
-      subst (λ x. All (Row x (a .n)) (heldRows b)) (sym (alike-sizes a b same .0))
+      subst (λ x. All (Row x (a .n)) (heldRows b)) (sym (alike-setups a b same .0))
       (subst (λ x. All (Row (b .q) x) (heldRows b)) equal-n (held-kept b whole-b sound-b .rows))
 
   pub first-below : (i : ℕ) → i < length (take (a .dimension * a .n) (a .entries))
@@ -105,7 +105,7 @@ module _ (a b : Receiver) (whole-a : length (a .entries) ≡ 256) (whole-b : len
       → getD (take (b .dimension * a .n) (b .entries)) i 0 < a .q
   second-below =
       subst (λ x. (i : ℕ) → i < length (take (b .dimension * a .n) (b .entries)) → getD (take (b .dimension * a .n) (b .entries)) i 0 < x)
-      (sym (alike-sizes a b same .0))
+      (sym (alike-setups a b same .0))
       (subst (λ x. (i : ℕ) → i < length (take (b .dimension * x) (b .entries)) → getD (take (b .dimension * x) (b .entries)) i 0 < b .q)
       equal-n (used-below b whole-b sound-b))
 

@@ -22,7 +22,7 @@ use Rattle.promise_recovery.specs.Calls.{Reachable}
 use Rattle.promise_recovery.specs.laws.Reachable.{reachable-exactly-well-formed}
 use Rattle.pool.specs.Pool.{alike, poolRefusal, poolOf, jointBuffer, commonBuffer, poolNumber, poolJoint, poolCommon}
 use Rattle.pool.specs.declared.Pooled.{Pooled}
-use Rattle.pool.specs.laws.PoolAccepted.{alike-sizes, pool-unrefused, pool-told}
+use Rattle.pool.specs.laws.PoolAccepted.{alike-setups, pool-unrefused, pool-told}
 
 -- a test that cannot hold
 fails : (b : Bool) → (b ≡ true → ⊥) → b ≡ false
@@ -36,7 +36,7 @@ formed : (r : Receiver) → length (r .entries) ≡ 256 → Reachable r → well
 formed r size = reachable-exactly-well-formed r size .0
 
 differ : (a b : Receiver) → ((a .q ≡ b .q) × (a .n ≡ b .n) × (a .k ≡ b .k) → ⊥) → alike a b ≡ false
-differ a b h = fails (alike a b) (λ e. h (alike-sizes a b e))
+differ a b h = fails (alike a b) (λ e. h (alike-setups a b e))
 
 same : (a b : Receiver) → (a .q ≡ b .q) × (a .n ≡ b .n) × (a .k ≡ b .k) → alike a b ≡ true
 unfolding alike

@@ -1,7 +1,7 @@
 -- What a list of calls on one receiver leaves and accepts, from an accepted Start on; carried by the course of the list.
 --   begun-holds    == Start hands back the receiver that holds no rows
 --   after-holds    == after the calls the receiver holds the accepted rows, as an equation of whole receivers
---   accepted-fits  == a row is accepted exactly when it has n entries, each below q
+--   accepted-fits  == a row is accepted exactly when it is offered for the receiver's pack, and has n entries, each below q
 --   accepted-rows  == accepted rows are rows
 --   unforged       == no call is refused 14
 --   after-dimension == the receiver tells the dimension of the accepted rows

@@ -6,7 +6,6 @@
 use mathlib.Core.Path.{_≡_, refl, ap, sym, _∙_, subst}
 use mathlib.Core.Bool.{Bool, true, false}
 use mathlib.Core.List.{List, [], _∷_, _++_, append-nil, append-assoc}
-use mathlib.Core.Logic.{_⊎_, inl, inr, ⊎-elim}
 use Prim.Native.Nat.{ℕ}
 use native.Mathlib.Omega.{arith}
 use borrow.Author.Tests.{eq-eqb, ne-eqb}
@@ -24,8 +23,8 @@ use Rattle.receiver.specs.laws.TakeAccepted.{close-unrefused}
 use Rattle.receiver.specs.declared.Taken.{Taken}
 use Rattle.receive.specs.declared.Received.the-variants.{Done, TooFew, TooMany}
 use Rattle.promise_recovery.specs.Calls.{Call, takeValue, takeLent, close, after, accepted, Unforged, none as nothing, more as further}
-use Rattle.promise_recovery.specs.Calls.{offered, fitting}
-use Rattle.promise_recovery.specs.laws.FittingRows.{fits, fits-row}
+use Rattle.promise_recovery.specs.Calls.{offered, fits, fitting}
+use Rattle.promise_recovery.specs.laws.FittingRows.{fits-own, fits-row}
 use Rattle.promise_recovery.specs.laws.HoldRows.{well-formed-holding, take-fits, take-misfits, take-taken, take-kept}
 
 pub record Course (s : Setup) (rows : List (List ℕ)) (cs : List Call) : Type 0 where
@@ -98,17 +97,18 @@ module _ (s : Setup) (settings : setupRefusal s ≡ 0) where
       here = ap (λ b. pick b (o .row ∷ fitting s (offered cs)) (fitting s (offered cs))) f
 
   step-misfits : (rows : List (List ℕ)) (o : Offer) (cs : List Call) (t : Taken) → fits s o ≡ false
-      → t .receiver ≡ holding s rows → (takeNumber (t .answer) ≡ 4) ⊎ (takeNumber (t .answer) ≡ 6) → Course s rows cs
+      → t .receiver ≡ holding s rows → (takeNumber (t .answer) ≡ 0 → ⊥) → (takeNumber (t .answer) ≡ receiverRefusal → ⊥)
+      → Course s rows cs
       → Step rows o cs t
   unfolding fitting
-  step-misfits rows o cs t f e z c =
+  step-misfits rows o cs t f e refused other c =
       record {
         left = ap (λ x. after x cs) e ∙ c .left ∙ ap (λ (x : List (List ℕ)). holding s (rows ++ x)) (sym here);
         taken =
             ap (λ b. pick b (o .row ∷ accepted (t .receiver) cs) (accepted (t .receiver) cs))
-            (ne-eqb (takeNumber (t .answer)) 0 (λ g. ⊎-elim (λ w. omega arith) (λ w. omega arith) z))
+            (ne-eqb (takeNumber (t .answer)) 0 refused)
             ∙ ap (λ x. accepted x cs) e ∙ c .taken ∙ sym here;
-        named = λ g. ⊎-elim (λ w. omega arith) (λ w. omega arith) z;
+        named = other;
         unforged = subst (λ x. Unforged x cs) (sym e) (c .unforged);
       }
     where
@@ -122,13 +122,13 @@ module _ (s : Setup) (settings : setupRefusal s ≡ 0) where
       cases : (b : Bool) → fits s o ≡ b → Step rows o cs (takeOf (holding s rows) o)
       cases true f =
           let hr = fits-row s o f in
-          let t = take-taken s settings rows h o (take-fits s settings rows h o hr) in
+          let t = take-taken s settings rows h o (take-fits s settings rows h o (fits-own s o f) hr) in
           step-fits rows o cs _ f (t .0) (t .1) (next (rows ++ (o .row ∷ [])) (all-append h (more hr none)))
       cases false f =
           let z = take-misfits s settings rows h o f in
-          let t = take-kept s settings rows h o (λ g. ⊎-elim (λ w. omega arith) (λ w. omega arith) z) in
+          let t = take-kept s settings rows h o (z .0) in
           let e = ap (λ x. takeNumber (x .answer)) t in
-          step-misfits rows o cs _ f (ap (λ x. x .receiver) t) (⊎-elim (λ w. inl (e ∙ w)) (λ w. inr (e ∙ w)) z) (next rows h)
+          step-misfits rows o cs _ f (ap (λ x. x .receiver) t) (λ g. z .0 (sym e ∙ g)) (λ g. z .1 (sym e ∙ g)) (next rows h)
 
   pub course : (cs : List Call) (rows : List (List ℕ)) → All (Row (s .q) (s .n)) rows → Course s rows cs
   unfolding after accepted offered fitting

@@ -1,6 +1,6 @@
 -- The rows that Take accepts, by a test; no part of the meaning.
---   fits s o        == the test of what is offered: a row of n entries, each below q
---   fits-row, row-fits == it holds exactly of a Row
+--   fits-own, fits-row == what fits is offered for the receiver's pack, and is a Row
+--   own-fits        == and nothing else fits
 --   fitting-rows    == the rows that fit are rows
 -- Assumes nothing.
 use mathlib.Core.Path.{_≡_, refl, ap₂}
@@ -18,23 +18,32 @@ use Rattle.matrix.specs.laws.Tests.{entries-below, entries-below-true}
 use Rattle.linear.specs.Span.{All, none, more, Row}
 use Rattle.linear.specs.laws.Every.{all-at, all-of}
 use Rattle.receiver.specs.Receiver.{Setup, Offer}
-use Rattle.promise_recovery.specs.Calls.{fitting}
+use Rattle.promise_recovery.specs.Calls.{fits, fitting}
 
-abbrev pub fits : Setup → Offer → Bool
-fits s o = eqb (length (o .row)) (s .n) && entriesBelow (s .q) (o .row)
+module _ (s : Setup) (o : Offer) where
+  -- the test of the row alone
+  abbrev sized : Bool
+  sized = eqb (length (o .row)) (s .n)
 
-pub fits-row : (s : Setup) (o : Offer) → fits s o ≡ true → Row (s .q) (s .n) (o .row)
-fits-row s o e =
-    let t = holds (fits s o) e in (
-      eqb→eq (length (o .row)) (s .n) (and-left (eqb (length (o .row)) (s .n)) (entriesBelow (s .q) (o .row)) t),
-      all-of 0 (o .row) (entries-below (s .q) (o .row) (and-right (eqb (length (o .row)) (s .n)) (entriesBelow (s .q) (o .row)) t)),
-    )
+  abbrev below : Bool
+  below = entriesBelow (s .q) (o .row)
 
-pub row-below : (q n : ℕ) (row : List ℕ) → Row q n row → entriesBelow q row ≡ true
-row-below q n row h = entries-below-true q row (all-at (h .1) 0)
+  pub fits-own : fits s o ≡ true → o .pack ≡ s .pack
+  fits-own e = eqb→eq (o .pack) (s .pack) (and-left (eqb (o .pack) (s .pack)) (sized && below) (holds (fits s o) e))
 
-pub row-fits : (s : Setup) (o : Offer) → Row (s .q) (s .n) (o .row) → fits s o ≡ true
-row-fits s o h = ap₂ _&&_ (eq-eqb (length (o .row)) (s .n) (h .0)) (row-below (s .q) (s .n) (o .row) h)
+  pub fits-row : fits s o ≡ true → Row (s .q) (s .n) (o .row)
+  fits-row e =
+      let t = and-right (eqb (o .pack) (s .pack)) (sized && below) (holds (fits s o) e) in (
+        eqb→eq (length (o .row)) (s .n) (and-left sized below t),
+        all-of 0 (o .row) (entries-below (s .q) (o .row) (and-right sized below t)),
+      )
+
+  pub row-below : Row (s .q) (s .n) (o .row) → entriesBelow (s .q) (o .row) ≡ true
+  row-below h = entries-below-true (s .q) (o .row) (all-at (h .1) 0)
+
+  pub own-fits : o .pack ≡ s .pack → Row (s .q) (s .n) (o .row) → fits s o ≡ true
+  own-fits own h =
+      ap₂ _&&_ (eq-eqb (o .pack) (s .pack) own) (ap₂ _&&_ (eq-eqb (length (o .row)) (s .n) (h .0)) (row-below h))
 
 pub fitting-rows : (s : Setup) (os : List Offer) → All (Row (s .q) (s .n)) (fitting s os)
 unfolding fitting

@@ -1,21 +1,21 @@
 -- The receivers that pass the test are those that hold some rows, and Take of such a receiver holds one row more.
 --   well-formed-holding    == the receiver that holds some rows passes the test
 --   holding-of-well-formed == a receiver that passes the test holds its rows, and is the one that holds them
---   take-fits, take-misfits == Take names no refusal exactly for a row; else 4 or 6
---   take-long, take-large == 4 where the length is not n, else 6
+--   take-fits, take-misfits == Take names no refusal exactly for a row of its own pack; and never 14
+--   take-foreign, take-long, take-large == 17 for another pack, else 4 where the length is not n, else 6
 --   take-tells     == what Take hands back tells of the row
 --   take-taken     == a row taken in: the receiver then holds it after the others
 --   take-kept      == a row refused: the receiver stays
 -- Assumes nothing.
-use mathlib.Core.Path.{_≡_, refl, ap, sym, _∙_}
+use mathlib.Core.Path.{_≡_, refl, ap, ap₂, sym, _∙_}
 use mathlib.Core.Bool.{true, false, _&&_}
 use mathlib.Core.List.{List, [], _∷_, _++_}
-use mathlib.Core.Logic.{_⊎_, inl, inr}
 use Prim.Native.Nat.{ℕ}
 use native.Mathlib.Decide.{ℕ-discrete}
+use native.Mathlib.Omega.{arith}
 use borrow.Author.Tests.{eq-eqb, ne-eqb}
 use lib.ListN.{length}
-use Rattle.refusal.specs.Refusal.{lengthRefusal, entryRefusal}
+use Rattle.refusal.specs.Refusal.{receiverRefusal, packRefusal, lengthRefusal, entryRefusal}
 use Rattle.refusal.specs.laws.First.{test-refused, test-passed, kept, done}
 use Rattle.field.specs.FieldLaws.{Laws}
 use Rattle.matrix.specs.Matrix.{entriesBelow}
@@ -33,7 +33,8 @@ use Rattle.receiver.specs.laws.TakeAccepted.{take-unrefused, take-told}
 use Rattle.receiver.specs.declared.Receiver.{Receiver}
 use Rattle.receiver.specs.declared.Taken.{Taken}
 use Rattle.receiver.specs.declared.TakeAnswer.the-variants.{Refused}
-use Rattle.promise_recovery.specs.laws.FittingRows.{fits, row-below}
+use Rattle.promise_recovery.specs.Calls.{fits}
+use Rattle.promise_recovery.specs.laws.FittingRows.{row-below}
 
 pub holding-of-well-formed : (r : Receiver) → length (r .entries) ≡ 256 → wellFormed r ≡ true
     → (r ≡ holding (setupOf r) (heldRows r)) × All (Row (r .q) (r .n)) (heldRows r)
@@ -53,27 +54,44 @@ module _ (s : Setup) (settings : setupRefusal s ≡ 0) (rows : List (List ℕ)) 
   well-formed-holding = well-formed (holding s rows) (holding-size s settings rows h) (holding-sound s settings rows h)
 
   module _ (o : Offer) where
-    pub take-fits : Row q n (o .row) → takeRefusal (holding s rows) o ≡ 0
+    pub take-fits : o .pack ≡ s .pack → Row q n (o .row) → takeRefusal (holding s rows) o ≡ 0
     unfolding holding
-    take-fits hr = take-unrefused (holding s rows) o well-formed-holding (hr .0) (row-below q n (o .row) hr)
+    take-fits own hr = take-unrefused (holding s rows) o well-formed-holding own (hr .0) (row-below s o hr)
 
-    pub take-long : (length (o .row) ≡ n → ⊥) → takeRefusal (holding s rows) o ≡ lengthRefusal
+    pub take-foreign : (o .pack ≡ s .pack → ⊥) → takeRefusal (holding s rows) o ≡ packRefusal
     unfolding holding takeRefusal
-    take-long l = test-passed _ _ _ well-formed-holding ∙ test-refused _ _ _ tt (ne-eqb (length (o .row)) n l)
+    take-foreign p = test-passed _ _ _ well-formed-holding ∙ test-refused _ _ _ tt (ne-eqb (o .pack) (s .pack) p)
 
-    pub take-large : length (o .row) ≡ n → fits s o ≡ false → takeRefusal (holding s rows) o ≡ entryRefusal
-    unfolding holding takeRefusal
-    take-large l e =
-        test-passed _ _ _ well-formed-holding
-        ∙ test-passed _ _ _ (eq-eqb (length (o .row)) n l)
-        ∙ test-refused _ _ _ tt (sym (ap (λ b. b && entriesBelow q (o .row)) (eq-eqb (length (o .row)) n l)) ∙ e)
+    module _ (own : o .pack ≡ s .pack) where
+      pub take-long : (length (o .row) ≡ n → ⊥) → takeRefusal (holding s rows) o ≡ lengthRefusal
+      unfolding holding takeRefusal
+      take-long l =
+          test-passed _ _ _ well-formed-holding
+          ∙ test-passed _ _ _ (eq-eqb (o .pack) (s .pack) own)
+          ∙ test-refused _ _ _ tt (ne-eqb (length (o .row)) n l)
 
-    pub take-misfits : fits s o ≡ false → (takeRefusal (holding s rows) o ≡ 4) ⊎ (takeRefusal (holding s rows) o ≡ 6)
-    take-misfits e = cases (ℕ-discrete (length (o .row)) n)
+      pub take-large : length (o .row) ≡ n → fits s o ≡ false → takeRefusal (holding s rows) o ≡ entryRefusal
+      unfolding holding takeRefusal
+      take-large l e =
+          test-passed _ _ _ well-formed-holding
+          ∙ test-passed _ _ _ (eq-eqb (o .pack) (s .pack) own)
+          ∙ test-passed _ _ _ (eq-eqb (length (o .row)) n l)
+          ∙ test-refused _ _ _ tt
+          (sym (ap₂ (λ p b. p && (b && entriesBelow q (o .row))) (eq-eqb (o .pack) (s .pack) own) (eq-eqb (length (o .row)) n l)) ∙ e)
+
+    pub take-misfits : fits s o ≡ false
+        → (takeRefusal (holding s rows) o ≡ 0 → ⊥) × (takeRefusal (holding s rows) o ≡ receiverRefusal → ⊥)
+    take-misfits e = cases (ℕ-discrete (o .pack) (s .pack)) (ℕ-discrete (length (o .row)) n)
       where
-        cases : Dec (length (o .row) ≡ n) → (takeRefusal (holding s rows) o ≡ 4) ⊎ (takeRefusal (holding s rows) o ≡ 6)
-        cases (no l) = inl (take-long l)
-        cases (yes l) = inr (take-large l e)
+        apart : {number : ℕ} → takeRefusal (holding s rows) o ≡ number → (number ≡ 0 → ⊥) × (number ≡ receiverRefusal → ⊥)
+            → (takeRefusal (holding s rows) o ≡ 0 → ⊥) × (takeRefusal (holding s rows) o ≡ receiverRefusal → ⊥)
+        apart is other = (λ z. other .0 (sym is ∙ z), λ z. other .1 (sym is ∙ z))
+
+        cases : Dec (o .pack ≡ s .pack) → Dec (length (o .row) ≡ n)
+            → (takeRefusal (holding s rows) o ≡ 0 → ⊥) × (takeRefusal (holding s rows) o ≡ receiverRefusal → ⊥)
+        cases (no p) l = apart (take-foreign p) (λ z. omega arith, λ z. omega arith)
+        cases (yes p) (no l) = apart (take-long p l) (λ z. omega arith, λ z. omega arith)
+        cases (yes p) (yes l) = apart (take-large p l e) (λ z. omega arith, λ z. omega arith)
 
     -- a reduced row more is a row more
     one-more : reducedRows q n (heldRows (holding s rows) ++ (o .row ∷ [])) ≡ reducedRows q n (rows ++ (o .row ∷ []))

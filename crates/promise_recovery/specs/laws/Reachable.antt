@@ -5,7 +5,7 @@
 --   reachable-size    == such a receiver has 256 entries
 --   reachable-exactly-well-formed == a receiver with 256 entries, as every real one has, is reachable exactly where the test holds
 -- Assumes nothing.
-use mathlib.Core.Path.{_≡_, ap, sym, _∙_, subst}
+use mathlib.Core.Path.{_≡_, refl, ap, sym, _∙_, subst}
 use mathlib.Core.Bool.{true}
 use mathlib.Core.List.{List, [], _∷_, _++_, append-nil, append-assoc}
 use mathlib.Core.Logic.{_↔_}
@@ -13,7 +13,7 @@ use Prim.Native.Nat.{ℕ}
 use lib.ListN.{length}
 use Rattle.linear.specs.Span.{All, none, more, Row}
 use Rattle.linear.specs.laws.Every.{all-append}
-use Rattle.receiver.specs.Receiver.{Setup, offer, setupOf, setupRefusal, wellFormed, heldRows, holding, takeOf}
+use Rattle.receiver.specs.Receiver.{Setup, Offer, offer, setupOf, setupRefusal, wellFormed, heldRows, holding, takeOf}
 use Rattle.receiver.specs.laws.Sound.{sound}
 use Rattle.receiver.specs.laws.Held.{holding-size}
 use Rattle.receiver.specs.declared.Receiver.{Receiver}
@@ -53,6 +53,10 @@ reachable-size reached =
     ap (λ r. length (r .entries)) (h .is) ∙ holding-size (h .setup) (h .settings) (h .rows) (h .each)
 
 module _ (s : Setup) (settings : setupRefusal s ≡ 0) where
+  -- a row offered for the receiver's pack
+  abbrev own : List ℕ → Offer
+  own row = offer (s .pack) row
+
   -- the rows taken one after the other
   grown : (held : List (List ℕ)) → All (Row (s .q) (s .n)) held → Reachable (holding s held)
       → {rows : List (List ℕ)} → All (Row (s .q) (s .n)) rows
@@ -61,8 +65,8 @@ module _ (s : Setup) (settings : setupRefusal s ≡ 0) where
   grown held h reached (more {x = row} {xs = rows} hr hs) =
       subst (λ x. Reachable (holding s x)) (append-assoc held (row ∷ []) rows)
       (grown (held ++ (row ∷ [])) (all-append h (more hr none))
-      (subst Reachable (take-taken s settings held h (offer row) (take-fits s settings held h (offer row) hr) .0)
-      (taken (holding s held) (offer row) reached)) hs)
+      (subst Reachable (take-taken s settings held h (own row) (take-fits s settings held h (own row) refl hr) .0)
+      (taken (holding s held) (own row) reached)) hs)
 
   pub holding-reachable : (rows : List (List ℕ)) → All (Row (s .q) (s .n)) rows → Reachable (holding s rows)
   holding-reachable rows h = grown [] none (subst Reachable (begun-holds s settings) (started s settings)) h

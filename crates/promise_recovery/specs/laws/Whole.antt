@@ -1,12 +1,13 @@
 -- Against emptiness of demand 3: the drawn rows themselves always give the index back. No part of the meaning.
 --   Among x xs           == x is one of xs
---   drawn-rows-recovered == a list of calls that offers each drawn row at least once, in any order and by either Take, and beside these
---                           only rows that are refused, and closes: closing after it gives the index, and the matrix's own vector
---   takeAll rows         == the rows taken by value, one after the other
+--   drawn-rows-recovered == a list of calls that offers each drawn row at least once for the receiver's pack, in any order and by either
+--                           Take, and beside these only rows that are refused, and closes: closing after it gives the index, and the matrix's
+--                           own vector
+--   offers pack rows     == the rows, each offered for the pack; takeAll os == these taken by value, one after the other
 --   drawn-rows-taken     == so taking the drawn rows from the top and closing gives the index
 --   drawn-bytes-received == and so does Receive of the drawn bytes
 -- Assumes nothing.
-use mathlib.Core.Path.{_≡_, refl, ap₂, sym, _∙_, subst}
+use mathlib.Core.Path.{_≡_, refl, ap, ap₂, sym, _∙_, subst}
 use mathlib.Core.Bool.{Bool, true, false}
 use mathlib.Core.List.{List, [], _∷_}
 use mathlib.Core.Logic.{_⊎_, inl, inr, Iff·rfl}
@@ -31,9 +32,9 @@ use Rattle.receive.specs.Receive.{receiveOf}
 use Rattle.receive.specs.declared.Received.the-variants.{Done}
 use Rattle.receiver.specs.Receiver.{Setup, Offer, setup, offer, closeOf}
 use Rattle.receiver.specs.laws.Held.{settings-laws}
-use Rattle.promise_recovery.specs.Calls.{Call, begun, takeValue, after, accepted, offered, fitting}
+use Rattle.promise_recovery.specs.Calls.{Call, begun, takeValue, after, accepted, offered, fits, fitting}
 use Rattle.promise_recovery.specs.Demand.{Buffer}
-use Rattle.promise_recovery.specs.laws.FittingRows.{fits, fits-row, row-fits}
+use Rattle.promise_recovery.specs.laws.FittingRows.{fits-own, fits-row, own-fits}
 use Rattle.promise_recovery.specs.laws.After.{accepted-fits, accepted-rows}
 use Rattle.promise_recovery.specs.Theorem.{demand-3}
 
@@ -45,55 +46,60 @@ among-all : {A : Type 0} {P : A → Type 0} {x : A} {xs : List A} → All P xs �
 among-all (more p ps) first = p
 among-all (more p ps) (later a) = among-all ps a
 
-each-among : {A : Type 0} (xs : List A) → All (λ x. Among x xs) xs
+pub each-among : {A : Type 0} (xs : List A) → All (λ x. Among x xs) xs
 each-among [] = none
 each-among (x ∷ xs) = more first (all-map (λ y a. later a) (each-among xs))
 
 -- a row that is offered and fits stands among the fitting ones
-among-fitting : (s : Setup) {o : Offer} → Row (s .q) (s .n) (o .row) → {os : List Offer} → Among o os → Among (o .row) (fitting s os)
+among-fitting : (s : Setup) {o : Offer} → o .pack ≡ s .pack → Row (s .q) (s .n) (o .row) → {os : List Offer} → Among o os
+    → Among (o .row) (fitting s os)
 unfolding fitting
-among-fitting s {o} h (first {xs = os}) =
-    subst (λ b. Among (o .row) (pick b (o .row ∷ fitting s os) (fitting s os))) (sym (row-fits s o h)) first
-among-fitting s {o} h (later {y = other} {xs = os} a) = cases (fits s other) (among-fitting s h a)
+among-fitting s {o} own h (first {xs = os}) =
+    subst (λ b. Among (o .row) (pick b (o .row ∷ fitting s os) (fitting s os))) (sym (own-fits s o own h)) first
+among-fitting s {o} own h (later {y = other} {xs = os} a) = cases (fits s other) (among-fitting s own h a)
   where
     cases : (b : Bool) → Among (o .row) (fitting s os) → Among (o .row) (pick b (other .row ∷ fitting s os) (fitting s os))
     cases true a = later a
     cases false a = a
 
--- what is offered has the property or is no row: then the fitting rows have it
-fitting-all : (s : Setup) {P : List ℕ → Type 0} {os : List Offer} → All (λ o. P (o .row) ⊎ (Row (s .q) (s .n) (o .row) → ⊥)) os
+-- what is offered has the property, or is no row of this pack: then the fitting rows have it
+fitting-all : (s : Setup) {P : List ℕ → Type 0} {os : List Offer}
+    → All (λ o. P (o .row) ⊎ ((o .pack ≡ s .pack) × Row (s .q) (s .n) (o .row) → ⊥)) os
     → All P (fitting s os)
 unfolding fitting
 fitting-all s none = none
 fitting-all s {P} (more {x = o} {xs = os} h hs) = cases (fits s o) refl h (fitting-all s hs)
   where
-    cases : (b : Bool) → fits s o ≡ b → P (o .row) ⊎ (Row (s .q) (s .n) (o .row) → ⊥) → All P (fitting s os)
+    cases : (b : Bool) → fits s o ≡ b → P (o .row) ⊎ ((o .pack ≡ s .pack) × Row (s .q) (s .n) (o .row) → ⊥) → All P (fitting s os)
         → All P (pick b (o .row ∷ fitting s os) (fitting s os))
     cases true e (inl p) ps = more p ps
-    cases true e (inr outside) ps = absurd (outside (fits-row s o e))
+    cases true e (inr outside) ps = absurd (outside (fits-own s o e, fits-row s o e))
     cases false e h ps = ps
 
-abbrev pub takeAll : List (List ℕ) → List Call
+abbrev pub offers : ℕ → List (List ℕ) → List Offer
+offers pack [] = []
+offers pack (row ∷ rows) = offer pack row ∷ offers pack rows
+
+pub all-offers : (pack : ℕ) {P : Offer → Type 0} {rows : List (List ℕ)} → All (λ row. P (offer pack row)) rows → All P (offers pack rows)
+all-offers pack none = none
+all-offers pack (more p ps) = more p (all-offers pack ps)
+
+pub among-offers : (pack : ℕ) {row : List ℕ} {rows : List (List ℕ)} → Among row rows → Among (offer pack row) (offers pack rows)
+among-offers pack first = first
+among-offers pack (later a) = later (among-offers pack a)
+
+abbrev pub takeAll : List Offer → List Call
 takeAll [] = []
-takeAll (row ∷ rows) = takeValue (offer row) ∷ takeAll rows
+takeAll (o ∷ os) = takeValue o ∷ takeAll os
 
--- what these calls offer: the rows
-all-offered : {P : List ℕ → Type 0} {rows : List (List ℕ)} → All P rows → All (λ o. P (o .row)) (offered (takeAll rows))
+-- these calls offer just that
+pub offered-all : (os : List Offer) → offered (takeAll os) ≡ os
 unfolding offered
-all-offered none = none
-all-offered (more p ps) = more p (all-offered ps)
-
-among-offered : {row : List ℕ} {rows : List (List ℕ)} → Among row rows → Among (offer row) (offered (takeAll rows))
-unfolding offered
-among-offered first = first
-among-offered (later a) = later (among-offered a)
+offered-all [] = refl
+offered-all (o ∷ os) = ap (λ (x : List Offer). o ∷ x) (offered-all os)
 
 module _ (q n k t : ℕ) (settings : settingsRefusal q n k ≡ 0) (known : isNumbering t ≡ true) (i : ℕ) (h : i < gaussian q n k)
     (b : List ℕ) (sized : Buffer n k b) where
-  -- what a receiver with these settings is started with
-  abbrev s : Setup
-  s = setup q n k
-
   law : Laws q
   law = settings-laws q n k settings
 
@@ -102,47 +108,55 @@ module _ (q n k t : ℕ) (settings : settingsRefusal q n k ≡ 0) (known : isNum
   drawnRows = rowsOf n k ((drawing q n k t) .leaves i b)
 
   reduced : Reduced q n k ((drawing q n k t) .leaves i b)
-  reduced = demand-3 s t settings known .listing .reduced i h b sized
+  reduced = demand-3 (setup q n k 0) t settings known .listing .reduced i h b sized
 
   valid : All (Row q n) drawnRows
   valid = reduced-rows q n reduced
 
-  pub drawn-rows-recovered : (cs : List Call)
-      → All (λ o. Among (o .row) (rowsOf n k ((drawing q n k t) .leaves i b)) ⊎ (Row q n (o .row) → ⊥)) (offered cs)
-      → All (λ row. Among (offer row) (offered cs)) (rowsOf n k ((drawing q n k t) .leaves i b))
-      → closeOf (after (begun s) cs) t ≡ Done (indexIn t i) (spaceOf n k ((drawing q n k t) .leaves i b))
-  unfolding HasVector
-  drawn-rows-recovered cs only every =
-      demand-3 s t settings known .recovery i h b sized cs
-      (all-map (λ v s. mixed-in-span q law n drawnRows valid v .1 s) inside) .typed _ ((drawing q n k t) .leaves i b, reduced, same, refl)
-    where
-      inside : All (InSpan q n drawnRows) (accepted (begun s) cs)
-      inside =
-          all-map (λ v a. among-all (span-each q law n drawnRows valid) a)
-          (subst (All (λ row. Among row drawnRows)) (sym (accepted-fits s settings cs)) (fitting-all s only))
+  module _ (pack : ℕ) where
+    -- what a receiver of this pack with these settings is started with
+    abbrev s : Setup
+    s = setup q n k pack
 
-      outside : All (InSpan q n (accepted (begun s) cs)) drawnRows
-      outside =
-          all-both
-          (λ v r a.
-          among-all (span-each q law n (accepted (begun s) cs) (accepted-rows s settings cs))
-          (subst (Among v) (sym (accepted-fits s settings cs)) (among-fitting s r a))) valid every
+    pub drawn-rows-recovered : (cs : List Call)
+        → All (λ o. Among (o .row) (rowsOf n k ((drawing q n k t) .leaves i b)) ⊎ ((o .pack ≡ pack) × Row q n (o .row) → ⊥)) (offered cs)
+        → All (λ row. Among (offer pack row) (offered cs)) (rowsOf n k ((drawing q n k t) .leaves i b))
+        → closeOf (after (begun s) cs) t ≡ Done (indexIn t i) (spaceOf n k ((drawing q n k t) .leaves i b))
+    unfolding HasVector
+    drawn-rows-recovered cs only every =
+        demand-3 s t settings known .recovery i h b sized cs
+        (all-map (λ v s. mixed-in-span q law n drawnRows valid v .1 s) inside) .typed _ ((drawing q n k t) .leaves i b, reduced, same, refl)
+      where
+        inside : All (InSpan q n drawnRows) (accepted (begun s) cs)
+        inside =
+            all-map (λ v a. among-all (span-each q law n drawnRows valid) a)
+            (subst (All (λ row. Among row drawnRows)) (sym (accepted-fits s settings cs)) (fitting-all s only))
 
-      same : SameSpan q n drawnRows (accepted (begun s) cs)
-      same = span-same q law n drawnRows (accepted (begun s) cs) valid (accepted-rows s settings cs) outside inside
+        outside : All (InSpan q n (accepted (begun s) cs)) drawnRows
+        outside =
+            all-both
+            (λ v r a.
+            among-all (span-each q law n (accepted (begun s) cs) (accepted-rows s settings cs))
+            (subst (Among v) (sym (accepted-fits s settings cs)) (among-fitting s refl r a))) valid every
 
-  pub drawn-rows-taken : closeOf (after (begun s) (takeAll (rowsOf n k ((drawing q n k t) .leaves i b)))) t
-      ≡ Done (indexIn t i) (spaceOf n k ((drawing q n k t) .leaves i b))
-  drawn-rows-taken =
-      drawn-rows-recovered (takeAll drawnRows)
-      (all-offered (all-map (λ v a. inl a) (each-among drawnRows))) (all-map (λ v a. among-offered a) (each-among drawnRows))
+        same : SameSpan q n drawnRows (accepted (begun s) cs)
+        same = span-same q law n drawnRows (accepted (begun s) cs) valid (accepted-rows s settings cs) outside inside
+
+    pub drawn-rows-taken : closeOf (after (begun s) (takeAll (offers pack (rowsOf n k ((drawing q n k t) .leaves i b))))) t
+        ≡ Done (indexIn t i) (spaceOf n k ((drawing q n k t) .leaves i b))
+    drawn-rows-taken =
+        let given = offered-all (offers pack drawnRows) in
+        drawn-rows-recovered (takeAll (offers pack drawnRows))
+        (subst (All _) (sym given) (all-offers pack (all-map (λ v a. inl a) (each-among drawnRows))))
+        (subst (λ os. All (λ row. Among (offer pack row) os) drawnRows) (sym given)
+        (all-map (λ v a. among-offers pack a) (each-among drawnRows)))
 
   pub drawn-bytes-received : receiveOf q n k t k ((drawing q n k t) .leaves i b) ≡ Done (indexIn t i) (spaceOf n k ((drawing q n k t) .leaves i b))
   unfolding HasVector SameSpan
   drawn-bytes-received =
       ap₂ (receiveOf q n k t) (sym (rows-length n k ((drawing q n k t) .leaves i b)))
       (sym (join-rows n k ((drawing q n k t) .leaves i b) (reduced .size)))
-      ∙ demand-3 s t settings known .reception i h b sized drawnRows few
+      ∙ demand-3 (setup q n k 0) t settings known .reception i h b sized drawnRows few
       (all-map (λ v s. mixed-in-span q law n drawnRows valid v .1 s) (span-each q law n drawnRows valid)) .typed _
       ((drawing q n k t) .leaves i b, reduced, λ v. Iff·rfl, refl)
     where
