@@ -1,6 +1,6 @@
 -- What demand 3 says of Draw, of a list of indexes that is drawn in one call and not refused.
 --   batch-recovers == at a place that is answered 0 the part is a drawn matrix: Number gives the place's index back, and so do, as demand 3
---                     says, mixtures of its rows, by every list of calls and by Receive
+--                     says, mixtures of its rows, by every list of calls on a receiver of any pack and by Receive
 --   batch-otherwise == at a place that is not, the index is N or more, the answer is 5, and the part is as it was
 --   batch-lists    == the list of 0 to N-1 is answered 0 throughout, and leaves every reduced matrix in exactly one place, strictly rising
 -- Assumes nothing.
@@ -28,17 +28,13 @@ use Rattle.number.specs.Number.{numberOf}
 use Rattle.number.specs.declared.Numbered.the-variants.{Done}
 use Rattle.number.specs.laws.NumberAccepted.{reduced-numbered}
 use Rattle.reduce.specs.Reduce.{mostRows}
-use Rattle.receiver.specs.Receiver.{Setup, setup}
+use Rattle.receiver.specs.Receiver.{setup}
 use Rattle.promise_recovery.specs.Calls.{Call, begun, accepted}
 use Rattle.promise_recovery.specs.Demand.{Buffer, Listing, Recovery, Reception, Demand}
 use Rattle.promise_recovery.specs.Theorem.{demand-3}
 
 module _ (q n k t : ℕ) (indexes matrices answers : List ℕ)
     (unrefused : batchRefusal q n k t (length indexes) (length matrices) (length answers) ≡ 0) where
-  -- what a receiver with these settings is started with
-  abbrev s : Setup
-  s = setup q n k
-
   -- the place's index, its part before and after the call, and its answer
   abbrev indexAt : ℕ → ℕ
   indexAt place = getD indexes place 0
@@ -55,8 +51,8 @@ module _ (q n k t : ℕ) (indexes matrices answers : List ℕ)
   whole : BatchAccepted q n k t (length indexes) (length matrices) (length answers)
   whole = batch-accepted q n k t (length indexes) (length matrices) (length answers) unrefused
 
-  demand : Demand s t (drawing q n k t)
-  demand = let c = chosen q n k t (whole .choice) in demand-3 s t (not-refused q n k (c .settings)) (c .known)
+  demand : (pack : ℕ) → Demand (setup q n k pack) t (drawing q n k t)
+  demand pack = let c = chosen q n k t (whole .choice) in demand-3 (setup q n k pack) t (not-refused q n k (c .settings)) (c .known)
 
   placed : (place : ℕ) → place < length indexes → Place q n k t (indexAt place) (lent place) (left place) (answer place)
   placed place h =
@@ -77,7 +73,8 @@ module _ (q n k t : ℕ) (indexes matrices answers : List ℕ)
   pub batch-recovers : (place : ℕ) → place < length indexes → answer place ≡ 0
       → (indexAt place < gaussian q n k)
       × (numberOf q n k t (left place) ≡ Done (indexIn t (indexAt place)))
-      × ((cs : List Call) → All (Mixed q n (rowsOf n k (left place))) (accepted (begun s) cs) → Recovery s t (indexAt place) cs)
+      × ((pack : ℕ) → let s = setup q n k pack in
+      (cs : List Call) → All (Mixed q n (rowsOf n k (left place))) (accepted (begun s) cs) → Recovery s t (indexAt place) cs)
       × ((rows : List (List ℕ)) → length rows ≤ mostRows → All (Mixed q n (rowsOf n k (left place))) rows
       → Reception q n k t (indexAt place) rows)
   batch-recovers place h z =
@@ -86,9 +83,9 @@ module _ (q n k t : ℕ) (indexes matrices answers : List ℕ)
       let d = placed place h .done l in (
         l,
         reduced-numbered q n k t (left place) (whole .choice) (d .1) ∙ ap (λ x. Done (indexIn t x)) (d .2),
-        λ cs m. demand .recovery (indexAt place) l (lent place) (sized place h) cs
-            (subst (λ x. All (Mixed q n (rowsOf n k x)) (accepted (begun s) cs)) e m),
-        λ rows few m. demand .reception (indexAt place) l (lent place) (sized place h) rows few
+        λ pack cs m. demand pack .recovery (indexAt place) l (lent place) (sized place h) cs
+            (subst (λ x. All (Mixed q n (rowsOf n k x)) (accepted (begun (setup q n k pack)) cs)) e m),
+        λ rows few m. demand 0 .reception (indexAt place) l (lent place) (sized place h) rows few
             (subst (λ x. All (Mixed q n (rowsOf n k x)) rows) e m),
       )
 
@@ -124,7 +121,7 @@ module _ (q n k t : ℕ) (indexes matrices answers : List ℕ)
   )
     where
       L : Listing q n k (drawing q n k t)
-      L = demand .listing
+      L = demand 0 .listing
 
       inside : (i : ℕ) → i < gaussian q n k → i < length indexes
       inside i h = subst (λ x. i < x) (sym all) h

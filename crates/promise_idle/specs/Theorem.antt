@@ -1,8 +1,8 @@
 -- Order 5, for all settings that are accepted: the theorems.
 --   take-answer    == after any list of calls from a fresh Start, Take of any row, in either form, answers as Answered says
---   zeros-idle     == so the zero row is idle and leaves the receiver in either form, full or empty as it may be
+--   zeros-idle     == so the zero row of its own pack is idle and leaves the receiver in either form, full or empty as it may be
 --   zeros-unharmed == from any receiver on, whatever it holds, a list of calls with zero rows put in leaves what the list leaves
---   zeros-anywhere == such as with one zero row put in at any place, by either Take
+--   zeros-anywhere == such as with one zero row put in at any place, for any pack, by either Take
 --   order-5        == the answers and the lists without a record, under the order's words
 --   record-unharmed == where the rows accepted without the zero rows are Mixed from a drawn matrix: demand 3 holds of the list with them,
 --                     zero rows being accepted rows, and closing after it answers by the rows of the list without them
@@ -49,17 +49,19 @@ take-answer s settings cs o = either
     either lent = value
 
 pub zeros-idle : (s : Setup) → setupRefusal s ≡ 0 → (cs : List Call)
-    → (takeOf (after (begun s) cs) (zeros (s .n)) ≡ takenAs (after (begun s) cs) Idle)
-    × (lentAnswer (after (begun s) cs) (zeros (s .n)) ≡ Idle)
-    × (lentReceiver (after (begun s) cs) (zeros (s .n)) ≡ after (begun s) cs)
+    → let o = zeros (s .pack) (s .n) in
+    (takeOf (after (begun s) cs) o ≡ takenAs (after (begun s) cs) Idle)
+    × (lentAnswer (after (begun s) cs) o ≡ Idle)
+    × (lentReceiver (after (begun s) cs) o ≡ after (begun s) cs)
 zeros-idle s settings cs =
-    let value = take-answer s settings cs (zeros (s .n)) byValue in
-    let other = take-answer s settings cs (zeros (s .n)) lent in
-    (ap₂ takenAs (still value) (value .idle .1 refl), other .idle .1 refl, still other)
+    let value = take-answer s settings cs (zeros (s .pack) (s .n)) byValue in
+    let other = take-answer s settings cs (zeros (s .pack) (s .n)) lent in
+    (ap₂ takenAs (still value) (value .idle .1 (refl, refl)), other .idle .1 (refl, refl), still other)
   where
     -- what is idle isn't raised
-    still : {t : Taken} → Answered s (accepted (begun s) cs) (after (begun s) cs) (zeros (s .n)) t → t .receiver ≡ after (begun s) cs
-    still A = A .untouched (λ e. holds false (ap takeIdle (sym e ∙ A .idle .1 refl)))
+    still : {t : Taken} → Answered s (accepted (begun s) cs) (after (begun s) cs) (zeros (s .pack) (s .n)) t
+        → t .receiver ≡ after (begun s) cs
+    still A = A .untouched (λ e. holds false (ap takeIdle (sym e ∙ A .idle .1 (refl, refl))))
 
 pub zeros-unharmed : (r : Receiver) → length (r .entries) ≡ 256 → {n : ℕ} {cs ds : List Call} → WithIdle n cs ds
     → after r ds ≡ after r cs
@@ -68,42 +70,45 @@ zeros-unharmed r size nothing = refl
 zeros-unharmed r size (call (takeValue o) w) = zeros-unharmed ((takeOf r o) .receiver) (take-size r size o) w
 zeros-unharmed r size (call (takeLent o) w) = zeros-unharmed ((takeOf r o) .receiver) (take-size r size o) w
 zeros-unharmed r size (call (close t) w) = zeros-unharmed r size w
-zeros-unharmed r size {n} (idleValue {ds = ds} w) = ap (λ x. after x ds) (zero-untouched r size n) ∙ zeros-unharmed r size w
-zeros-unharmed r size {n} (idleLent {ds = ds} w) = ap (λ x. after x ds) (zero-untouched r size n) ∙ zeros-unharmed r size w
+zeros-unharmed r size {n} (idleValue {ds = ds} pack w) = ap (λ x. after x ds) (zero-untouched r size pack n) ∙ zeros-unharmed r size w
+zeros-unharmed r size {n} (idleLent {ds = ds} pack w) = ap (λ x. after x ds) (zero-untouched r size pack n) ∙ zeros-unharmed r size w
 
-pub zeros-anywhere : (r : Receiver) → length (r .entries) ≡ 256 → (n : ℕ) (cs ds : List Call)
-    → (after r (cs ++ (takeValue (zeros n) ∷ ds)) ≡ after r (cs ++ ds)) × (after r (cs ++ (takeLent (zeros n) ∷ ds)) ≡ after r (cs ++ ds))
-zeros-anywhere r size n cs ds = (zeros-unharmed r size (put-value n cs ds), zeros-unharmed r size (put-lent n cs ds))
+pub zeros-anywhere : (r : Receiver) → length (r .entries) ≡ 256 → (pack n : ℕ) (cs ds : List Call)
+    → (after r (cs ++ (takeValue (zeros pack n) ∷ ds)) ≡ after r (cs ++ ds))
+    × (after r (cs ++ (takeLent (zeros pack n) ∷ ds)) ≡ after r (cs ++ ds))
+zeros-anywhere r size pack n cs ds = (zeros-unharmed r size (put-value pack n cs ds), zeros-unharmed r size (put-lent pack n cs ds))
 
-pub order-5 : (q n k : ℕ) → settingsRefusal q n k ≡ 0 → let s = setup q n k in
-    -- (After any list of calls from a fresh Start, let t be what Take, in either form, hands back for any row.)
-    ((cs : List Call) (row : List ℕ) (t : Taken) → TakenBy (after (begun s) cs) (offer row) t
+pub order-5 : (q n k own : ℕ) → settingsRefusal q n k ≡ 0 → let s = setup q n k own in
+    -- (After any list of calls from a fresh Start, let t be what Take, in either form, hands back for any row, offered for any pack.)
+    ((cs : List Call) (pack : ℕ) (row : List ℕ) (t : Taken) → TakenBy (after (begun s) cs) (offer pack row) t
     -- "Take now answers "idle" for an accepted row of zeros,
-    → ((t .answer ≡ Idle) ↔ (row ≡ zeroRow n))
+    → ((t .answer ≡ Idle) ↔ ((pack ≡ own) × (row ≡ zeroRow n)))
     -- and "held" means a nonzero row already in the span.
-    × ((t .answer ≡ Held) ↔ ((row ≡ zeroRow n → ⊥) × InSpan q n (accepted (begun s) cs) row))
-    -- (And "raised" a row that isn't. What is no row of n entries, each below q, is refused as ever, zeros too.)
-    × ((t .answer ≡ Raised) ↔ (Row q n row × (InSpan q n (accepted (begun s) cs) row → ⊥)))
-    × ((length row ≡ n → ⊥) → t .answer ≡ Refused 4)
-    × (length row ≡ n → (Row q n row → ⊥) → t .answer ≡ Refused 6)
+    × ((t .answer ≡ Held) ↔ ((pack ≡ own) × (row ≡ zeroRow n → ⊥) × InSpan q n (accepted (begun s) cs) row))
+    -- (And "raised" a row that isn't. A row of another pack is refused 17, zeros too, and what is no row of n entries, each below q, is refused
+    -- as ever.)
+    × ((t .answer ≡ Raised) ↔ ((pack ≡ own) × Row q n row × (InSpan q n (accepted (begun s) cs) row → ⊥)))
+    × ((t .answer ≡ Refused 17) ↔ (pack ≡ own → ⊥))
+    × (pack ≡ own → (length row ≡ n → ⊥) → t .answer ≡ Refused 4)
+    × (pack ≡ own → length row ≡ n → (Row q n row → ⊥) → t .answer ≡ Refused 6)
     -- The receiver's content is untouched in both cases, (as a whole, and refused too; "raised" its dimension grows by one,)
     × ((t .answer ≡ Raised → ⊥) → t .receiver ≡ after (begun s) cs)
     × (t .answer ≡ Raised → (t .receiver) .dimension ≡ suc ((after (begun s) cs) .dimension)))
-    -- and mixtures that come out zero still never harm a record." (Zero rows put in anywhere, by either Take, leave the same receiver, and
-    -- so the same Close, in whatever numbering; from any receiver on.)
+    -- and mixtures that come out zero still never harm a record." (Zero rows put in anywhere, for any pack and by either Take, leave the same
+    -- receiver, and so the same Close, in whatever numbering; from any receiver on.)
     × ((r : Receiver) → length (r .entries) ≡ 256 → (cs ds : List Call) → WithIdle n cs ds
     → (after r ds ≡ after r cs) × ((t : ℕ) → closeOf (after r ds) t ≡ closeOf (after r cs) t))
-order-5 q n k settings = (
-  λ cs row t by.
-      let A = take-answer (setup q n k) settings cs (offer row) by in
-      (A .idle, A .held, A .raised, A .long, A .large, A .untouched, A .grown),
+order-5 q n k own settings = (
+  λ cs pack row t by.
+      let A = take-answer (setup q n k own) settings cs (offer pack row) by in
+      (A .idle, A .held, A .raised, A .foreign, A .long, A .large, A .untouched, A .grown),
   λ r size cs ds w. let e = zeros-unharmed r size w in (e, λ t. ap (λ x. closeOf x t) e),
 )
 
-module _ (q n k t : ℕ) (settings : settingsRefusal q n k ≡ 0) (known : isNumbering t ≡ true) where
-  -- what a receiver with these settings is started with
+module _ (q n k pack t : ℕ) (settings : settingsRefusal q n k ≡ 0) (known : isNumbering t ≡ true) where
+  -- what a receiver of this pack with these settings is started with
   abbrev s : Setup
-  s = setup q n k
+  s = setup q n k pack
 
   begun-size : length ((begun s) .entries) ≡ 256
   begun-size = ap (λ r. length (r .entries)) (begun-holds s settings) ∙ holding-size s settings [] none

@@ -6,10 +6,11 @@ use mathlib.Core.Bool.{Bool, true, false, _&&_}
 use mathlib.Core.List.{List, [], _∷_, _++_}
 use mathlib.Core.Logic.{_↔_}
 use Prim.Native.Nat.{ℕ, suc, _<_}
+use native.Mathlib.Decide.{ℕ-discrete}
 use native.Mathlib.Omega.{arith}
 use borrow.Author.Tests.{eq-eqb, lt-ltb, ltb-true}
 use lib.Dec.{eqb, ltb}
-use lib.ListN.{replicate}
+use lib.ListN.{length, replicate}
 use Rattle.basics.specs.Choice.{pick}
 use Rattle.basics.specs.laws.Choice.{is-true, holds}
 use Rattle.basics.specs.laws.Test.{and-right}
@@ -28,8 +29,9 @@ use Rattle.receiver.specs.declared.Receiver.{Receiver}
 use Rattle.receiver.specs.declared.Taken.{Taken}
 use Rattle.receiver.specs.declared.TakeAnswer.{TakeAnswer}
 use Rattle.receiver.specs.declared.TakeAnswer.the-variants.{Raised, Held, Idle, Refused}
-use Rattle.promise_recovery.specs.laws.FittingRows.{fits, fits-row}
-use Rattle.promise_recovery.specs.laws.HoldRows.{take-fits, take-long, take-large, take-tells, take-taken, take-kept}
+use Rattle.promise_recovery.specs.Calls.{fits}
+use Rattle.promise_recovery.specs.laws.FittingRows.{fits-row}
+use Rattle.promise_recovery.specs.laws.HoldRows.{take-fits, take-foreign, take-long, take-large, take-tells, take-taken, take-kept}
 use Rattle.promise_idle.specs.Idle.{zeroRow, Answered}
 
 -- the answers by their tests
@@ -80,18 +82,18 @@ module _ (s : Setup) (settings : setupRefusal s ≡ 0) (rows : List (List ℕ)) 
   tells = take-tells s settings rows h o
 
   -- a row for which no refusal is told
-  accepted : takeNumber (t .answer) ≡ 0 → Row q n row
+  accepted : takeNumber (t .answer) ≡ 0 → (o .pack ≡ s .pack) × Row q n row
   unfolding holding
-  accepted z = accepted-row r o (take-accepted r o (sym (tells .number) ∙ z))
+  accepted z = let a = take-accepted r o (sym (tells .number) ∙ z) in (a .own, accepted-row r o a)
 
   kept-dimension : takeRefusal r o ≡ 0 → InSpan q n rows row → (t .receiver) .dimension ≡ r .dimension
   kept-dimension z i =
       ap (λ x. x .dimension) (take-taken s settings rows h o z .0 ∙ holding-held s settings rows h row i)
 
-  grown-dimension : Row q n row → (InSpan q n rows row → ⊥) → (t .receiver) .dimension ≡ suc (r .dimension)
+  grown-dimension : o .pack ≡ s .pack → Row q n row → (InSpan q n rows row → ⊥) → (t .receiver) .dimension ≡ suc (r .dimension)
   unfolding holding
-  grown-dimension hr outside =
-      ap (λ x. x .dimension) (take-taken s settings rows h o (take-fits s settings rows h o hr) .0)
+  grown-dimension own hr outside =
+      ap (λ x. x .dimension) (take-taken s settings rows h o (take-fits s settings rows h o own hr) .0)
       ∙ dimension-raised q law n rows h row hr outside
 
   raised-grows : t .answer ≡ Raised → r .dimension < (t .receiver) .dimension
@@ -100,34 +102,39 @@ module _ (s : Setup) (settings : setupRefusal s ≡ 0) (rows : List (List ℕ)) 
   grows-raised : r .dimension < (t .receiver) .dimension → t .answer ≡ Raised
   grows-raised g = raised-only (t .answer) (tells .raised ∙ lt-ltb (r .dimension) ((t .receiver) .dimension) g)
 
-  raised : (t .answer ≡ Raised) ↔ (Row q n row × (InSpan q n rows row → ⊥))
+  raised : (t .answer ≡ Raised) ↔ ((o .pack ≡ s .pack) × Row q n row × (InSpan q n rows row → ⊥))
   raised = (
     λ e.
         let z : takeNumber (t .answer) ≡ 0 = ap takeNumber e in
-        (accepted z, λ i. let same = kept-dimension (sym (tells .number) ∙ z) i in omega (arith, raised-grows e, same)),
-    λ x. let more = grown-dimension (x .0) (x .1) in grows-raised (omega (arith, more)),
+        let a = accepted z in
+        (a .0, a .1, λ i. let same = kept-dimension (sym (tells .number) ∙ z) i in omega (arith, raised-grows e, same)),
+    λ x. let more = grown-dimension (x .0) (x .1) (x .2) in grows-raised (omega (arith, more)),
   )
 
-  idle : (t .answer ≡ Idle) ↔ (row ≡ zeroRow n)
+  idle : (t .answer ≡ Idle) ↔ ((o .pack ≡ s .pack) × (row ≡ zeroRow n))
   idle = (
     λ e.
         let both = holds _ (sym (tells .idle) ∙ ap takeIdle e) in
         let zero : isZero row ≡ true = is-true (isZero row) (and-right (eqb (takeRefusal r o) 0) (isZero row) both) in
-        below-one row zero ∙ ap (λ x. replicate x 0) (accepted (ap takeNumber e) .0),
-    λ e.
-        let z = take-fits s settings rows h o (subst (Row q n) (sym e) (zero-row q law n)) in
-        let zero : isZero row ≡ true = ap isZero e ∙ zeros-below n in
+        let a = accepted (ap takeNumber e) in
+        (a .0, below-one row zero ∙ ap (λ x. replicate x 0) (a .1 .0)),
+    λ x.
+        let z = take-fits s settings rows h o (x .0) (subst (Row q n) (sym (x .1)) (zero-row q law n)) in
+        let zero : isZero row ≡ true = ap isZero (x .1) ∙ zeros-below n in
         idle-only (t .answer) (tells .idle ∙ ap (λ b. b && isZero row) (eq-eqb (takeRefusal r o) 0 z) ∙ zero),
   )
 
-  held : (t .answer ≡ Held) ↔ ((row ≡ zeroRow n → ⊥) × InSpan q n rows row)
+  held : (t .answer ≡ Held) ↔ ((o .pack ≡ s .pack) × (row ≡ zeroRow n → ⊥) × InSpan q n rows row)
   unfolding takeOf takenIn
   held = (
-    λ e. (λ zero. apart-idle (sym e ∙ idle .1 zero), inside e (span-decide q law n rows h row (accepted (ap takeNumber e)))),
+    λ e.
+        let a = accepted (ap takeNumber e) in
+        (a .0, λ zero. apart-idle (sym e ∙ idle .1 (a .0, zero)), inside e (span-decide q law n rows h row (a .1))),
     λ x.
-        let z = take-fits s settings rows h o (span-row q law n rows h row (x .1)) in
+        let z = take-fits s settings rows h o (x .0) (span-row q law n rows h row (x .2)) in
         held-only (isZero row) (ltb (r .dimension) (dimension (r .q) (r .n) (heldRows r ++ (row ∷ [])))) (t .answer)
-        (ap (λ (y : Taken). y .answer) (sym (done (takeRefusal r o) _ _ z))) (λ e. raised .0 e .1 (x .1)) (λ e. x .0 (idle .0 e)),
+        (ap (λ (y : Taken). y .answer) (sym (done (takeRefusal r o) _ _ z))) (λ e. raised .0 e .2 (x .2))
+        (λ e. x .1 (idle .0 e .1)),
   )
     where
       apart-idle : _≡_ {A = TakeAnswer} Held Idle → ⊥
@@ -138,11 +145,28 @@ module _ (s : Setup) (settings : setupRefusal s ≡ 0) (rows : List (List ℕ)) 
 
       inside : t .answer ≡ Held → Dec (InSpan q n rows row) → InSpan q n rows row
       inside e (yes i) = i
-      inside e (no outside) = absurd (apart-raised (sym e ∙ raised .1 (accepted (ap takeNumber e), outside)))
+      inside e (no outside) = let a = accepted (ap takeNumber e) in absurd (apart-raised (sym e ∙ raised .1 (a .0, a .1, outside)))
 
   refused : {number : ℕ} → takeRefusal r o ≡ suc number → t .answer ≡ Refused (suc number)
   refused e =
       ap (λ (x : Taken). x .answer) (take-kept s settings rows h o (λ z. omega (arith, e, z))) ∙ ap Refused e
+
+  foreign : (t .answer ≡ Refused 17) ↔ (o .pack ≡ s .pack → ⊥)
+  foreign = (
+    λ e own. owned e own (ℕ-discrete (length row) n) (fits s o) refl,
+    λ p. refused (take-foreign s settings rows h o p),
+  )
+    where
+      -- what is offered for its own pack is told another number
+      owned : t .answer ≡ Refused 17 → o .pack ≡ s .pack → Dec (length row ≡ n) → (b : Bool) → fits s o ≡ b → ⊥
+      owned e own l b f =
+          let told : takeRefusal r o ≡ 17 = sym (tells .number) ∙ ap takeNumber e in
+          cases l b f told
+        where
+          cases : Dec (length row ≡ n) → (b : Bool) → fits s o ≡ b → takeRefusal r o ≡ 17 → ⊥
+          cases l true f told = let z = take-fits s settings rows h o own (fits-row s o f) in omega (arith, z, told)
+          cases (no l) false f told = let z = take-long s settings rows h o own l in omega (arith, z, told)
+          cases (yes l) false f told = let z = take-large s settings rows h o own l f in omega (arith, z, told)
 
   misfit : (Row q n row → ⊥) → fits s o ≡ false
   misfit outside = cases (fits s o) refl
@@ -154,11 +178,12 @@ module _ (s : Setup) (settings : setupRefusal s ≡ 0) (rows : List (List ℕ)) 
   pub answered : Answered s rows (holding s rows) o (takeOf (holding s rows) o)
   answered =
       record {
+        foreign = foreign;
         raised = raised;
         held = held;
         idle = idle;
-        long = λ l. refused (take-long s settings rows h o l);
-        large = λ l outside. refused (take-large s settings rows h o l (misfit outside));
-        grown = λ e. let x = raised .0 e in grown-dimension (x .0) (x .1);
+        long = λ own l. refused (take-long s settings rows h o own l);
+        large = λ own l outside. refused (take-large s settings rows h o own l (misfit outside));
+        grown = λ e. let x = raised .0 e in grown-dimension (x .0) (x .1) (x .2);
         untouched = λ e. tells .untouched (unraised (t .answer) e);
       }

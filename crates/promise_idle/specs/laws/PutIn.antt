@@ -1,5 +1,5 @@
 -- Zero rows put into a list of calls; no part of the meaning.
---   zero-untouched  == a zero row, of whatever length, leaves any receiver
+--   zero-untouched  == a zero row, of whatever length and for whatever pack, leaves any receiver
 --   take-size       == Take hands back a receiver of 256 entries
 --   put-value, put-lent == a zero row put in at one place
 --   put-in-fitting  == what holds of the zero row and of the rows that fit holds with zero rows put in
@@ -26,8 +26,7 @@ use Rattle.receiver.specs.declared.Receiver.{Receiver}
 use Rattle.receiver.specs.declared.Taken.{Taken}
 use Rattle.receiver.specs.declared.TakeAnswer.{TakeAnswer}
 use Rattle.receiver.specs.declared.TakeAnswer.the-variants.{Raised, Held, Idle, Refused}
-use Rattle.promise_recovery.specs.Calls.{Call, takeValue, takeLent, close, offered, fitting}
-use Rattle.promise_recovery.specs.laws.FittingRows.{fits}
+use Rattle.promise_recovery.specs.Calls.{Call, takeValue, takeLent, close, offered, fits, fitting}
 use Rattle.promise_idle.specs.Idle.{zeroRow, zeros, WithIdle, none as nothing, call, idleValue, idleLent}
 
 idle-unraised : (a : TakeAnswer) → takeIdle a ≡ true → takeRaised a ≡ false
@@ -43,17 +42,20 @@ refused-unraised Idle e = refl
 refused-unraised (Refused r) e = refl
 
 module _ (r : Receiver) (size : length (r .entries) ≡ 256) where
-  pub zero-untouched : (n : ℕ) → (takeOf r (zeros n)) .receiver ≡ r
-  zero-untouched n = told .untouched (cases (ℕ-discrete (takeRefusal r (zeros n)) 0))
+  pub zero-untouched : (pack n : ℕ) → (takeOf r (zeros pack n)) .receiver ≡ r
+  zero-untouched pack n = told .untouched (cases (ℕ-discrete (takeRefusal r o) 0))
     where
-      told : TakeTells r (zeros n) (takeOf r (zeros n))
-      told = take-told r (zeros n) size (takeOf r (zeros n)) refl
+      o : Offer
+      o = zeros pack n
 
-      cases : Dec (takeRefusal r (zeros n) ≡ 0) → takeRaised ((takeOf r (zeros n)) .answer) ≡ false
+      told : TakeTells r o (takeOf r o)
+      told = take-told r o size (takeOf r o) refl
+
+      cases : Dec (takeRefusal r o ≡ 0) → takeRaised ((takeOf r o) .answer) ≡ false
       cases (yes z) =
-          idle-unraised ((takeOf r (zeros n)) .answer)
-          (told .idle ∙ ap (λ b. b && isZero (zeroRow n)) (eq-eqb (takeRefusal r (zeros n)) 0 z) ∙ zeros-below n)
-      cases (no z) = refused-unraised ((takeOf r (zeros n)) .answer) (λ e. z (sym (told .number) ∙ e))
+          idle-unraised ((takeOf r o) .answer)
+          (told .idle ∙ ap (λ b. b && isZero (zeroRow n)) (eq-eqb (takeRefusal r o) 0 z) ∙ zeros-below n)
+      cases (no z) = refused-unraised ((takeOf r o) .answer) (λ e. z (sym (told .number) ∙ e))
 
   pub take-size : (o : Offer) → length (((takeOf r o) .receiver) .entries) ≡ 256
   unfolding takeOf takenIn
@@ -72,13 +74,13 @@ same-calls : (n : ℕ) (cs : List Call) → WithIdle n cs cs
 same-calls n [] = nothing
 same-calls n (c ∷ cs) = call c (same-calls n cs)
 
-pub put-value : (n : ℕ) (cs ds : List Call) → WithIdle n (cs ++ ds) (cs ++ (takeValue (zeros n) ∷ ds))
-put-value n [] ds = idleValue (same-calls n ds)
-put-value n (c ∷ cs) ds = call c (put-value n cs ds)
+pub put-value : (pack n : ℕ) (cs ds : List Call) → WithIdle n (cs ++ ds) (cs ++ (takeValue (zeros pack n) ∷ ds))
+put-value pack n [] ds = idleValue pack (same-calls n ds)
+put-value pack n (c ∷ cs) ds = call c (put-value pack n cs ds)
 
-pub put-lent : (n : ℕ) (cs ds : List Call) → WithIdle n (cs ++ ds) (cs ++ (takeLent (zeros n) ∷ ds))
-put-lent n [] ds = idleLent (same-calls n ds)
-put-lent n (c ∷ cs) ds = call c (put-lent n cs ds)
+pub put-lent : (pack n : ℕ) (cs ds : List Call) → WithIdle n (cs ++ ds) (cs ++ (takeLent (zeros pack n) ∷ ds))
+put-lent pack n [] ds = idleLent pack (same-calls n ds)
+put-lent pack n (c ∷ cs) ds = call c (put-lent pack n cs ds)
 
 -- a row before others, where it fits
 before-all : (P : List ℕ → Type 0) (b : Bool) (row : List ℕ) (xs ys : List (List ℕ)) → (All P xs → All P ys)
@@ -97,5 +99,5 @@ module _ (s : Setup) (P : List ℕ → Type 0) (zero : P (zeroRow (s .n))) where
   put-in-fitting (call (takeValue o) w) ps = before-all P (fits s o) (o .row) _ _ (λ x. put-in-fitting w x) ps
   put-in-fitting (call (takeLent o) w) ps = before-all P (fits s o) (o .row) _ _ (λ x. put-in-fitting w x) ps
   put-in-fitting (call (close t) w) ps = put-in-fitting w ps
-  put-in-fitting (idleValue w) ps = one-before P (fits s (zeros (s .n))) (zeroRow (s .n)) _ zero (put-in-fitting w ps)
-  put-in-fitting (idleLent w) ps = one-before P (fits s (zeros (s .n))) (zeroRow (s .n)) _ zero (put-in-fitting w ps)
+  put-in-fitting (idleValue pack w) ps = one-before P (fits s (zeros pack (s .n))) (zeroRow (s .n)) _ zero (put-in-fitting w ps)
+  put-in-fitting (idleLent pack w) ps = one-before P (fits s (zeros pack (s .n))) (zeroRow (s .n)) _ zero (put-in-fitting w ps)
