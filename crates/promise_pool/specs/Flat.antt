@@ -1,5 +1,5 @@
--- Order 1 once more, as one flat statement: quantifiers, implications and pairs, under the order's words. It follows from `order-1`,
--- `pool-spaces` and `pool-reachable` by their clauses, and uses each of them.
+-- Order 1 once more, as one flat statement: quantifiers, implications and pairs, under the order's words, with what order 8 adds to it. It
+-- follows from `order-1`, `packs-apart`, `pool-spaces` and `pool-reachable` by their clauses, and uses each of them.
 --   order-1-flat  == "Pooling takes two receivers with equal q, n and k and writes two reduced matrices into lent n×n buffers: .."
 -- Assumes nothing.
 use mathlib.Core.Path.{_≡_, refl, ap, sym, _∙_, subst, subst₂}
@@ -31,12 +31,12 @@ use Rattle.pool.specs.Pool.{poolRefusal, pooled, poolOf, jointBuffer, commonBuf
 use Rattle.pool.specs.declared.Pooled.{Pooled}
 use Rattle.pool.specs.laws.PoolAccepted.{PoolAccepted, pool-accepted}
 use Rattle.pool.specs.laws.Pooling.{first-held, second-held}
-use Rattle.promise_pool.specs.Pooling.{pooledAfter}
+use Rattle.promise_pool.specs.Pooling.{SameSetup, pooledAfter}
 use Rattle.promise_pool.specs.Spaces.{joint-exactly, pool-spaces, pool-reachable}
-use Rattle.promise_pool.specs.Theorem.{order-1}
+use Rattle.promise_pool.specs.Theorem.{order-1, packs-apart}
 use Rattle.promise_pool.specs.laws.Carried.{joint-carried, common-carried}
 use Rattle.promise_pool.specs.laws.Held.{pool-none}
-use Rattle.promise_pool.specs.laws.Refused.{first-forged, second-forged, sizes-differ, buffers-wrong, none-applies}
+use Rattle.promise_pool.specs.laws.Refused.{first-forged, second-forged, setups-differ, buffers-wrong, none-applies}
 use Rattle.promise_pool.specs.laws.Refused.{number-is, refused-leaves}
 
 module _ (a b : Receiver) (whole-a : length (a .entries) ≡ 256) (whole-b : length (b .entries) ≡ 256) (joint common : List ℕ)
@@ -61,10 +61,10 @@ module _ (a b : Receiver) (whole-a : length (a .entries) ≡ 256) (whole-b : len
   unfolding poolOf pooled
   receiver-holds = ap (λ (x : Pooled). x .receiver) (sym (done _ _ _ unrefused))
 
-  receiver-settings : ((p .receiver) .q ≡ a .q) × ((p .receiver) .n ≡ a .n) × ((p .receiver) .k ≡ a .k)
+  receiver-setup : SameSetup (p .receiver) a
   unfolding holding
-  receiver-settings =
-      (ap (λ r. r .q) receiver-holds, ap (λ r. r .n) receiver-holds, ap (λ r. r .k) receiver-holds)
+  receiver-setup =
+      (ap (λ r. r .q) receiver-holds, ap (λ r. r .n) receiver-holds, ap (λ r. r .k) receiver-holds, ap (λ r. r .pack) receiver-holds)
 
   one-joint : (d : ℕ) (u : List ℕ) → JointSpace (a .q) (a .n) (heldRows a) (heldRows b) d u
       → ((p .receiver) .dimension ≡ d) × (used (p .receiver) ≡ u)
@@ -189,21 +189,21 @@ pub order-1-flat :
     -- "Pooling takes two receivers with equal q, n and k .. It refuses with 14 for the first receiver, then the second,
     ((Reachable a → ⊥) → poolNumber (p .answer) ≡ 14)
     × (Reachable a → (Reachable b → ⊥) → poolNumber (p .answer) ≡ 14)
-    -- then with 16 if q, n or k differ,
-    × (Reachable a → Reachable b → ((a .q ≡ b .q) × (a .n ≡ b .n) × (a .k ≡ b .k) → ⊥) → poolNumber (p .answer) ≡ 16)
+    -- then with 16 if q, n or k differ, (or the packs,)
+    × (Reachable a → Reachable b → (SameSetup a b → ⊥) → poolNumber (p .answer) ≡ 16)
     -- then with 4 for a wrong buffer.
-    × (Reachable a → Reachable b → (a .q ≡ b .q) × (a .n ≡ b .n) × (a .k ≡ b .k)
+    × (Reachable a → Reachable b → SameSetup a b
     → ((length joint ≡ a .n * a .n) × (length common ≡ a .n * a .n) → ⊥) → poolNumber (p .answer) ≡ 4)
     -- (It is done where none of these applies.)
-    × (Reachable a → Reachable b → (a .q ≡ b .q) × (a .n ≡ b .n) × (a .k ≡ b .k)
+    × (Reachable a → Reachable b → SameSetup a b
     → (length joint ≡ a .n * a .n) × (length common ≡ a .n * a .n) → poolNumber (p .answer) ≡ 0)
     -- A refusal gives a receiver of all zeros and dimensions 0. (Both buffers are as they were.)
     × ((poolNumber (p .answer) ≡ 0 → ⊥)
     → (p .receiver ≡ empty noSetup) × (poolJoint (p .answer) ≡ 0) × (poolCommon (p .answer) ≡ 0) × (left ≡ joint) × (shared ≡ common))
     × (poolNumber (p .answer) ≡ 0
     -- It .. writes two reduced matrices into lent n×n buffers: that of the smallest space containing both,
-    -- Pooling also hands back a receiver with the same settings that holds the smallest space.
-    → ((p .receiver) .q ≡ a .q) × ((p .receiver) .n ≡ a .n) × ((p .receiver) .k ≡ a .k)
+    -- Pooling also hands back a receiver with the same settings (and the packs' common number) that holds the smallest space.
+    → SameSetup (p .receiver) a
     × ((p .receiver) .dimension ≡ poolJoint (p .answer))
     × JointSpace (a .q) (a .n) (heldRows a) (heldRows b) (poolJoint (p .answer)) (used (p .receiver))
     × (left ≡ used (p .receiver) ++ replicate (a .n * a .n - poolJoint (p .answer) * a .n) 0)
@@ -214,10 +214,10 @@ pub order-1-flat :
     × (poolJoint (p .answer) + poolCommon (p .answer) ≡ a .dimension + b .dimension)
     -- (The receiver may take rows, be closed and be pooled again.)
     × Reachable (p .receiver)))
-    -- (For accepted settings, and two lists of calls, each on a receiver of its own from a fresh Start: pooling them is done, and the joint
-    -- and the common space are those of the rows that the two accepted.)
-    × ((q n k : ℕ) → settingsRefusal q n k ≡ 0 → (cs ds : List Call) (joint common : List ℕ) → length joint ≡ n * n → length common ≡ n * n
-    → let s = setup q n k in
+    -- (For accepted settings and any pack, and two lists of calls, each on a receiver of its own from a fresh Start: pooling them is done, and
+    -- the joint and the common space are those of the rows that the two accepted.)
+    × ((q n k pack : ℕ) → settingsRefusal q n k ≡ 0 → (cs ds : List Call) (joint common : List ℕ) → length joint ≡ n * n → length common ≡ n * n
+    → let s = setup q n k pack in
     let us = accepted (begun s) cs in
     let vs = accepted (begun s) ds in
     let p = pooledAfter s cs ds in
@@ -243,23 +243,36 @@ pub order-1-flat :
     × (poolJoint (p .answer) < k → tells (closeOf (p .receiver) t) 8 0)
     × ((v : ℕ) → HasVector q n (us ++ vs) (poolJoint (p .answer)) v → tellsSpace (closeOf (p .receiver) t) (poolJoint (p .answer)) v)
     × ((v : ℕ) × HasVector q n (us ++ vs) (poolJoint (p .answer)) v)))
+    -- (For two packs, each with accepted settings of its own, "Pooling's 16 now also covers differing packs": after any two lists of calls it
+    -- is refused so, with a receiver of all zeros and dimensions 0, and leaves both buffers.)
+    × ((s other : Setup) → setupRefusal s ≡ 0 → setupRefusal other ≡ 0 → (s .pack ≡ other .pack → ⊥) → (cs ds : List Call)
+    → (joint common : List ℕ)
+    → let a = after (begun s) cs in
+    let b = after (begun other) ds in
+    let p = poolOf a b (length joint) (length common) in
+    (poolNumber (p .answer) ≡ 16)
+    × (p .receiver ≡ empty noSetup)
+    × (poolJoint (p .answer) ≡ 0)
+    × (poolCommon (p .answer) ≡ 0)
+    × (jointBuffer a b joint (length common) ≡ joint)
+    × (commonBuffer a b (length joint) common ≡ common))
 order-1-flat = (
   λ a b whole-a whole-b joint common.
       let number = number-is a b (length joint) (length common) in (
         λ h. number ∙ first-forged a b whole-a whole-b (length joint) (length common) h,
         λ f h. number ∙ second-forged a b whole-a whole-b (length joint) (length common) f h,
-        λ f s h. number ∙ sizes-differ a b whole-a whole-b (length joint) (length common) f s h,
+        λ f s h. number ∙ setups-differ a b whole-a whole-b (length joint) (length common) f s h,
         λ f s e h. number ∙ buffers-wrong a b whole-a whole-b (length joint) (length common) f s e h,
         λ f s e l. number ∙ none-applies a b whole-a whole-b (length joint) (length common) f s e l,
         λ z. refused-leaves a b joint common (λ x. z (number ∙ x)),
         λ z.
             let x = sym number ∙ z in
-            let r = receiver-settings a b whole-a whole-b joint common x in
+            let r = receiver-setup a b whole-a whole-b joint common x in
             let s = spaces a b whole-a whole-b joint common x in
-            (r .0, r .1, r .2, s .0, s .1, s .2, s .3, s .4, pool-reachable a b whole-a whole-b joint common x),
+            (r, s .0, s .1, s .2, s .3, s .4, pool-reachable a b whole-a whole-b joint common x),
       ),
-  λ q n k settings cs ds joint common lj lc.
-      let s = setup q n k in
+  λ q n k pack settings cs ds joint common lj lc.
+      let s = setup q n k pack in
       let o = order-1 s 1 settings first-known cs ds in
       let x = lists-spaces s settings cs ds joint common lj lc in (
         o .0,
@@ -279,4 +292,5 @@ order-1-flat = (
               some-vector s settings cs ds (R .answers .some),
             ),
       ),
+  packs-apart,
 )

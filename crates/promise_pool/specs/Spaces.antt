@@ -34,6 +34,7 @@ use Rattle.pool.specs.declared.Pooled.{Pooled}
 use Rattle.pool.specs.laws.PoolAccepted.{PoolAccepted, alike-setups, pool-accepted, pool-told}
 use Rattle.pool.specs.declared.PoolAnswer.{PoolAnswer}
 use Rattle.pool.specs.laws.Pooling.{field-laws, first-held, second-held}
+use Rattle.promise_pool.specs.Pooling.{SameSetup}
 
 module _ (q : ℕ) (law : Laws q) (n : ℕ) (us vs : List (List ℕ)) (hu : All (Row q n) us) (hv : All (Row q n) vs) where
   pub joint-exactly : (d : ℕ) (m : List ℕ) → JointSpace q n us vs d m ↔ ((d ≡ jointDimension q n us vs) × (m ≡ jointOf q n us vs))
@@ -55,8 +56,8 @@ module _ (a b : Receiver) (whole-a : length (a .entries) ≡ 256) (whole-b : len
   ok : PoolAccepted a b (length joint) (length common)
   ok = pool-accepted a b (length joint) (length common) unrefused
 
-  sizes : (a .q ≡ b .q) × (a .n ≡ b .n) × (a .k ≡ b .k)
-  sizes = alike-setups a b (ok .same)
+  same : SameSetup a b
+  same = alike-setups a b (ok .same)
 
   law : Laws (a .q)
   law = field-laws a b whole-a whole-b (ok .first) (ok .second) (ok .same)
@@ -72,7 +73,7 @@ module _ (a b : Receiver) (whole-a : length (a .entries) ≡ 256) (whole-b : len
 
   second-dimension : dimension (a .q) (a .n) (heldRows b) ≡ b .dimension
   second-dimension =
-      ap₂ (λ x y. dimension x y (heldRows b)) (sizes .0) (sizes .1) ∙ held-dimension b whole-b (sound b whole-b (ok .second))
+      ap₂ (λ x y. dimension x y (heldRows b)) (same .0) (same .1) ∙ held-dimension b whole-b (sound b whole-b (ok .second))
 
   J : JointSpace (a .q) (a .n) (heldRows a) (heldRows b) (jointDimension (a .q) (a .n) (heldRows a) (heldRows b))
       (jointOf (a .q) (a .n) (heldRows a) (heldRows b))

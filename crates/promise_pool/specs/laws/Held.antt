@@ -72,7 +72,8 @@ module _ (s : Setup) (settings : setupRefusal s ≡ 0) where
     unfolding holding alike
     pool-none =
         pool-unrefused (holding s us) (holding s vs) (n * n) (n * n) (well-formed-holding s settings us hu)
-        (well-formed-holding s settings vs hv) (rw (eq-eqb q q refl, eq-eqb n n refl, eq-eqb (s .k) (s .k) refl)) refl refl
+        (well-formed-holding s settings vs hv)
+        (rw (eq-eqb q q refl, eq-eqb n n refl, eq-eqb (s .k) (s .k) refl, eq-eqb (s .pack) (s .pack) refl)) refl refl
 
     pub pool-holding : (poolOf (holding s us) (holding s vs) (n * n) (n * n)) .receiver ≡ holding s (us ++ vs)
     unfolding poolOf pooled holding

@@ -1,6 +1,6 @@
 -- Which refusal pooling answers, and what a refused pooling leaves; no part of the meaning.
 --   first-forged, second-forged == 14 where Start and Take cannot leave the first receiver, or the second
---   sizes-differ    == 16 where q, n or k differ
+--   setups-differ   == 16 where q, n, k or the packs differ
 --   buffers-wrong   == 4 where a buffer has a wrong length
 --   none-applies    == no refusal where none of these applies
 --   number-is       == the number told is the refusal
@@ -22,6 +22,7 @@ use Rattle.promise_recovery.specs.Calls.{Reachable}
 use Rattle.promise_recovery.specs.laws.Reachable.{reachable-exactly-well-formed}
 use Rattle.pool.specs.Pool.{alike, poolRefusal, poolOf, jointBuffer, commonBuffer, poolNumber, poolJoint, poolCommon}
 use Rattle.pool.specs.declared.Pooled.{Pooled}
+use Rattle.promise_pool.specs.Pooling.{SameSetup}
 use Rattle.pool.specs.laws.PoolAccepted.{alike-setups, pool-unrefused, pool-told}
 
 -- a test that cannot hold
@@ -35,12 +36,13 @@ forged r size h = fails (wellFormed r) (λ w. h (reachable-exactly-well-formed r
 formed : (r : Receiver) → length (r .entries) ≡ 256 → Reachable r → wellFormed r ≡ true
 formed r size = reachable-exactly-well-formed r size .0
 
-differ : (a b : Receiver) → ((a .q ≡ b .q) × (a .n ≡ b .n) × (a .k ≡ b .k) → ⊥) → alike a b ≡ false
+differ : (a b : Receiver) → (SameSetup a b → ⊥) → alike a b ≡ false
 differ a b h = fails (alike a b) (λ e. h (alike-setups a b e))
 
-same : (a b : Receiver) → (a .q ≡ b .q) × (a .n ≡ b .n) × (a .k ≡ b .k) → alike a b ≡ true
+same : (a b : Receiver) → SameSetup a b → alike a b ≡ true
 unfolding alike
-same a b e = rw (eq-eqb (a .q) (b .q) (e .0), eq-eqb (a .n) (b .n) (e .1), eq-eqb (a .k) (b .k) (e .2))
+same a b e =
+    rw (eq-eqb (a .q) (b .q) (e .0), eq-eqb (a .n) (b .n) (e .1), eq-eqb (a .k) (b .k) (e .2), eq-eqb (a .pack) (b .pack) (e .3))
 
 module _ (a b : Receiver) (whole-a : length (a .entries) ≡ 256) (whole-b : length (b .entries) ≡ 256) (joint common : ℕ) where
   pub first-forged : (Reachable a → ⊥) → poolRefusal a b joint common ≡ 14
@@ -51,12 +53,12 @@ module _ (a b : Receiver) (whole-a : length (a .entries) ≡ 256) (whole-b : len
   unfolding poolRefusal
   second-forged f h = test-passed _ _ _ (formed a whole-a f) ∙ test-refused _ _ _ tt (forged b whole-b h)
 
-  pub sizes-differ : Reachable a → Reachable b → ((a .q ≡ b .q) × (a .n ≡ b .n) × (a .k ≡ b .k) → ⊥) → poolRefusal a b joint common ≡ 16
+  pub setups-differ : Reachable a → Reachable b → (SameSetup a b → ⊥) → poolRefusal a b joint common ≡ 16
   unfolding poolRefusal
-  sizes-differ f s h =
+  setups-differ f s h =
       test-passed _ _ _ (formed a whole-a f) ∙ test-passed _ _ _ (formed b whole-b s) ∙ test-refused _ _ _ tt (differ a b h)
 
-  pub buffers-wrong : Reachable a → Reachable b → (a .q ≡ b .q) × (a .n ≡ b .n) × (a .k ≡ b .k)
+  pub buffers-wrong : Reachable a → Reachable b → SameSetup a b
       → ((joint ≡ a .n * a .n) × (common ≡ a .n * a .n) → ⊥) → poolRefusal a b joint common ≡ 4
   unfolding poolRefusal
   buffers-wrong f s e h =
@@ -70,7 +72,7 @@ module _ (a b : Receiver) (whole-a : length (a .entries) ≡ 256) (whole-b : len
       cases (yes j) =
           test-passed _ _ _ (eq-eqb joint (a .n * a .n) j) ∙ test-refused _ _ _ tt (ne-eqb common (a .n * a .n) (λ c. h (j, c)))
 
-  pub none-applies : Reachable a → Reachable b → (a .q ≡ b .q) × (a .n ≡ b .n) × (a .k ≡ b .k)
+  pub none-applies : Reachable a → Reachable b → SameSetup a b
       → (joint ≡ a .n * a .n) × (common ≡ a .n * a .n) → poolRefusal a b joint common ≡ 0
   none-applies f s e l =
       pool-unrefused a b joint common (formed a whole-a f) (formed b whole-b s) (same a b e) (l .0) (l .1)

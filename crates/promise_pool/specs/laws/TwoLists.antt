@@ -8,8 +8,7 @@ use mathlib.Core.List.{List, [], _∷_, _++_}
 use Prim.Native.Nat.{ℕ}
 use Rattle.basics.specs.Choice.{pick}
 use Rattle.receiver.specs.Receiver.{Setup, Offer, setupRefusal}
-use Rattle.promise_recovery.specs.Calls.{Call, takeValue, takeLent, close, begun, accepted, offered, fitting}
-use Rattle.promise_recovery.specs.laws.FittingRows.{fits}
+use Rattle.promise_recovery.specs.Calls.{Call, takeValue, takeLent, close, begun, accepted, offered, fits, fitting}
 use Rattle.promise_recovery.specs.laws.After.{accepted-fits}
 
 offered-append : (cs ds : List Call) → offered (cs ++ ds) ≡ offered cs ++ offered ds

@@ -5,6 +5,7 @@
 --   accepted-rows  == accepted rows are rows
 --   unforged       == no call is refused 14
 --   after-dimension == the receiver tells the dimension of the accepted rows
+--   after-pack     == it belongs to the pack of the Start
 -- Assumes nothing.
 use mathlib.Core.Path.{_≡_, ap, sym, _∙_, subst}
 use mathlib.Core.List.{List, []}
@@ -37,6 +38,10 @@ module _ (s : Setup) (settings : setupRefusal s ≡ 0) where
 
     pub unforged : Unforged (begun s) cs
     unforged = subst (λ r. Unforged r cs) (sym begun-holds) (whole .unforged)
+
+    pub after-pack : (after (begun s) cs) .pack ≡ s .pack
+    unfolding holding
+    after-pack = ap (λ r. r .pack) after-holds
 
     pub after-dimension : HasDimension (s .q) (s .n) (accepted (begun s) cs) ((after (begun s) cs) .dimension)
     unfolding holding

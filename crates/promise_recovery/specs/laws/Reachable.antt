@@ -3,6 +3,7 @@
 --   reachable-holds   == such a receiver holds some rows
 --   holding-reachable == the receiver that holds some rows is left by taking them one after the other
 --   reachable-size    == such a receiver has 256 entries
+--   after-reachable   == a list of calls from an accepted Start leaves one
 --   reachable-exactly-well-formed == a receiver with 256 entries, as every real one has, is reachable exactly where the test holds
 -- Assumes nothing.
 use mathlib.Core.Path.{_≡_, refl, ap, sym, _∙_, subst}
@@ -17,11 +18,11 @@ use Rattle.receiver.specs.Receiver.{Setup, Offer, offer, setupOf, setupRefusal,
 use Rattle.receiver.specs.laws.Sound.{sound}
 use Rattle.receiver.specs.laws.Held.{holding-size}
 use Rattle.receiver.specs.declared.Receiver.{Receiver}
-use Rattle.promise_recovery.specs.Calls.{takeValue, after, Reachable, started, taken, offered, fitting}
+use Rattle.promise_recovery.specs.Calls.{Call, takeValue, begun, after, accepted, Reachable, started, taken, offered, fitting}
 use Rattle.promise_recovery.specs.laws.FittingRows.{fitting-rows}
 use Rattle.promise_recovery.specs.laws.HoldRows.{well-formed-holding, holding-of-well-formed, take-fits, take-taken}
 use Rattle.promise_recovery.specs.laws.Course.{course}
-use Rattle.promise_recovery.specs.laws.After.{begun-holds}
+use Rattle.promise_recovery.specs.laws.After.{begun-holds, after-holds, accepted-rows}
 
 -- r holds some rows, under accepted settings
 pub record Holds (r : Receiver) : Type 0 where
@@ -70,6 +71,10 @@ module _ (s : Setup) (settings : setupRefusal s ≡ 0) where
 
   pub holding-reachable : (rows : List (List ℕ)) → All (Row (s .q) (s .n)) rows → Reachable (holding s rows)
   holding-reachable rows h = grown [] none (subst Reachable (begun-holds s settings) (started s settings)) h
+
+pub after-reachable : (s : Setup) → setupRefusal s ≡ 0 → (cs : List Call) → Reachable (after (begun s) cs)
+after-reachable s settings cs =
+    subst Reachable (sym (after-holds s settings cs)) (holding-reachable s settings (accepted (begun s) cs) (accepted-rows s settings cs))
 
 pub reachable-exactly-well-formed : (r : Receiver) → length (r .entries) ≡ 256 → Reachable r ↔ (wellFormed r ≡ true)
 reachable-exactly-well-formed r size = (there, back)
