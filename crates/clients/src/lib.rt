@@ -114,26 +114,27 @@ pub fn receive_rows(q: u64, n: u64, k: u64, t: u64, row_count: u64, rows: &[u8])
     receive::receive(q, n, k, t, row_count, rows)
 }
 
-pub fn start(q: u64, n: u64, k: u64) -> Started
-    ensures { λ r. ⌜ r ≡ startOf (setup q n k) ⌝ }
-    ensures { λ r. ⌜ startNumber r ≡ setupRefusal (setup q n k) ⌝ }
+pub fn start(q: u64, n: u64, k: u64, pack: u16) -> Started
+    ensures { λ r. ⌜ r ≡ startOf (setup q n k pack) ⌝ }
+    ensures { λ r. ⌜ startNumber r ≡ setupRefusal (setup q n k pack) ⌝ }
 {
-    receiver::start(q, n, k)
+    receiver::start(q, n, k, pack)
 }
 
-pub fn take(receiver: Receiver, row: &[u8]) -> Taken
-    ensures { λ r. ⌜ (r ≡ takeOf receiver (offer (now (row .entry)))) × TakeTells receiver (offer (now (row .entry))) r ⌝ }
+pub fn take(receiver: Receiver, pack: u16, row: &[u8]) -> Taken
+    ensures { λ r. ⌜ (r ≡ takeOf receiver (offer pack (now (row .entry)))) × TakeTells receiver (offer pack (now (row .entry))) r ⌝ }
 {
-    receiver.take(row)
+    receiver.take(pack, row)
 }
 
 // Lends a local to Take, and hands back what is then in it.
-pub fn taken_lent(mut receiver: Receiver, row: &[u8]) -> Taken
-    ensures { λ r. ⌜ (r .answer ≡ lentAnswer receiver (offer (now (row .entry))))
-        × TakeTells receiver (offer (now (row .entry))) (takenAs (lentReceiver receiver (offer (now (row .entry)))) (r .answer))
-        × (r .receiver ≡ lentReceiver receiver (offer (now (row .entry)))) ⌝ }
+pub fn taken_lent(mut receiver: Receiver, pack: u16, row: &[u8]) -> Taken
+    ensures { λ r. ⌜ (r .answer ≡ lentAnswer receiver (offer pack (now (row .entry))))
+        × TakeTells receiver (offer pack (now (row .entry)))
+        (takenAs (lentReceiver receiver (offer pack (now (row .entry)))) (r .answer))
+        × (r .receiver ≡ lentReceiver receiver (offer pack (now (row .entry)))) ⌝ }
 {
-    let answer = receiver::take_lent(&mut receiver, row);
+    let answer = receiver::take_lent(&mut receiver, pack, row);
     Taken { receiver, answer }
 }
 

@@ -15,6 +15,7 @@ pub struct Image {
     pub n: u64,
     pub k: u64,
     pub dimension: u64,
+    pub pack: u64,
 }
 
 // What Start and Take leave: the receiver, the refusal or 0, 1 where the dimension grew, and 1 where the row was idle.
@@ -34,7 +35,13 @@ fn image_of(receiver: Receiver) -> Image {
         n: receiver.n,
         k: receiver.k,
         dimension: receiver.dimension,
+        pack: receiver.pack as u64,
     }
+}
+
+// A pack number: the low 16 bits of a larger one.
+fn pack_of(pack: u64) -> u16 {
+    (pack % 65536) as u16
 }
 
 fn receiver_of(image: Image) -> Receiver {
@@ -45,6 +52,7 @@ fn receiver_of(image: Image) -> Receiver {
         n: image.n,
         k: image.k,
         dimension: image.dimension,
+        pack: pack_of(image.pack),
     }
 }
 
@@ -58,8 +66,8 @@ fn step_of(receiver: Receiver, refusal: u32, raised: u32, idle: u32) -> Step {
 }
 
 #[no_mangle]
-pub extern "C" fn harness_start(q: u64, n: u64, k: u64) -> Step {
-    let started = receiver::start(q, n, k);
+pub extern "C" fn harness_start(q: u64, n: u64, k: u64, pack: u64) -> Step {
+    let started = receiver::start(q, n, k, pack_of(pack));
     let receiver = started.receiver;
     step_of(receiver, started.refusal, 0, 0)
 }
@@ -76,13 +84,13 @@ fn take_step(taken: Taken) -> Step {
 }
 
 #[no_mangle]
-pub extern "C" fn harness_take(image: Image, row: &[u8]) -> Step {
-    take_step(receiver_of(image).take(row))
+pub extern "C" fn harness_take(image: Image, pack: u64, row: &[u8]) -> Step {
+    take_step(receiver_of(image).take(pack_of(pack), row))
 }
 
 #[no_mangle]
-pub extern "C" fn harness_take_lent(image: Image, row: &[u8]) -> Step {
-    take_step(clients::taken_lent(receiver_of(image), row))
+pub extern "C" fn harness_take_lent(image: Image, pack: u64, row: &[u8]) -> Step {
+    take_step(clients::taken_lent(receiver_of(image), pack_of(pack), row))
 }
 
 // What Receive and Close answer; done, the index and the vector, and no dimension.

@@ -6,11 +6,10 @@ use mathlib.Core.Bool.{Bool, true, false, _&&_}
 use mathlib.Core.List.{List, [], _∷_, _++_}
 use mathlib.Core.Logic.{_↔_}
 use Prim.Native.Nat.{ℕ, suc, _<_}
-use native.Mathlib.Decide.{ℕ-discrete}
 use native.Mathlib.Omega.{arith}
 use borrow.Author.Tests.{eq-eqb, lt-ltb, ltb-true}
 use lib.Dec.{eqb, ltb}
-use lib.ListN.{length, replicate}
+use lib.ListN.{replicate}
 use Rattle.basics.specs.Choice.{pick}
 use Rattle.basics.specs.laws.Choice.{is-true, holds}
 use Rattle.basics.specs.laws.Test.{and-right}
@@ -21,17 +20,15 @@ use Rattle.linear.specs.Span.{All, Row, InSpan}
 use Rattle.linear.specs.Eliminate.{dimension}
 use Rattle.linear.specs.laws.Mixture.{span-row, zero-row}
 use Rattle.linear.specs.laws.OneMore.{dimension-raised, span-decide}
-use Rattle.receiver.specs.Receiver.{Setup, Offer, setupRefusal, heldRows, holding, isZero, takeRefusal, takenIn, takeOf}
+use Rattle.receiver.specs.Receiver.{Setup, Offer, setupRefusal, wellFormed, heldRows, holding, isZero, takeRefusal, takenIn, takeOf}
 use Rattle.receiver.specs.Receiver.{takeNumber, takeRaised, takeIdle, TakeTells}
 use Rattle.receiver.specs.laws.Held.{settings-laws, holding-held}
-use Rattle.receiver.specs.laws.TakeAccepted.{take-accepted, accepted-row}
+use Rattle.receiver.specs.laws.TakeAccepted.{take-accepted, accepted-row, take-foreign, take-long, take-large, foreign-only}
 use Rattle.receiver.specs.declared.Receiver.{Receiver}
 use Rattle.receiver.specs.declared.Taken.{Taken}
 use Rattle.receiver.specs.declared.TakeAnswer.{TakeAnswer}
 use Rattle.receiver.specs.declared.TakeAnswer.the-variants.{Raised, Held, Idle, Refused}
-use Rattle.promise_recovery.specs.Calls.{fits}
-use Rattle.promise_recovery.specs.laws.FittingRows.{fits-row}
-use Rattle.promise_recovery.specs.laws.HoldRows.{take-fits, take-foreign, take-long, take-large, take-tells, take-taken, take-kept}
+use Rattle.promise_recovery.specs.laws.HoldRows.{well-formed-holding, take-fits, take-tells, take-taken, take-kept}
 use Rattle.promise_idle.specs.Idle.{zeroRow, Answered}
 
 -- the answers by their tests
@@ -151,39 +148,23 @@ module _ (s : Setup) (settings : setupRefusal s ≡ 0) (rows : List (List ℕ)) 
   refused e =
       ap (λ (x : Taken). x .answer) (take-kept s settings rows h o (λ z. omega (arith, e, z))) ∙ ap Refused e
 
-  foreign : (t .answer ≡ Refused 17) ↔ (o .pack ≡ s .pack → ⊥)
-  foreign = (
-    λ e own. owned e own (ℕ-discrete (length row) n) (fits s o) refl,
-    λ p. refused (take-foreign s settings rows h o p),
-  )
-    where
-      -- what is offered for its own pack is told another number
-      owned : t .answer ≡ Refused 17 → o .pack ≡ s .pack → Dec (length row ≡ n) → (b : Bool) → fits s o ≡ b → ⊥
-      owned e own l b f =
-          let told : takeRefusal r o ≡ 17 = sym (tells .number) ∙ ap takeNumber e in
-          cases l b f told
-        where
-          cases : Dec (length row ≡ n) → (b : Bool) → fits s o ≡ b → takeRefusal r o ≡ 17 → ⊥
-          cases l true f told = let z = take-fits s settings rows h o own (fits-row s o f) in omega (arith, z, told)
-          cases (no l) false f told = let z = take-long s settings rows h o own l in omega (arith, z, told)
-          cases (yes l) false f told = let z = take-large s settings rows h o own l f in omega (arith, z, told)
+  formed : wellFormed r ≡ true
+  formed = well-formed-holding s settings rows h
 
-  misfit : (Row q n row → ⊥) → fits s o ≡ false
-  misfit outside = cases (fits s o) refl
-    where
-      cases : (b : Bool) → fits s o ≡ b → fits s o ≡ false
-      cases true e = absurd (outside (fits-row s o e))
-      cases false e = e
+  foreign : (t .answer ≡ Refused 17) ↔ (o .pack ≡ s .pack → ⊥)
+  unfolding holding
+  foreign = (λ e. foreign-only r o formed (sym (tells .number) ∙ ap takeNumber e), λ p. refused (take-foreign r o formed p))
 
   pub answered : Answered s rows (holding s rows) o (takeOf (holding s rows) o)
+  unfolding holding
   answered =
       record {
         foreign = foreign;
         raised = raised;
         held = held;
         idle = idle;
-        long = λ own l. refused (take-long s settings rows h o own l);
-        large = λ own l outside. refused (take-large s settings rows h o own l (misfit outside));
+        long = λ own l. refused (take-long r o formed own l);
+        large = λ own l outside. refused (take-large r o formed own l outside);
         grown = λ e. let x = raised .0 e in grown-dimension (x .0) (x .1) (x .2);
         untouched = λ e. tells .untouched (unraised (t .answer) e);
       }

@@ -7,37 +7,27 @@
 --   refused-leaves  == a refused pooling: a receiver of all zeros, dimensions 0, and both buffers as they were
 -- Assumes nothing.
 use mathlib.Core.Path.{_≡_, refl, ap, sym, _∙_}
-use mathlib.Core.Bool.{Bool, true, false}
+use mathlib.Core.Bool.{true, false}
 use mathlib.Core.List.{List, [], _∷_}
 use Prim.Native.Nat.{ℕ, _*_}
 use native.Mathlib.Decide.{ℕ-discrete}
 use borrow.Author.Tests.{eq-eqb, ne-eqb}
 use lib.Dec.{eqb}
 use lib.ListN.{length}
+use Rattle.basics.specs.laws.Choice.{is-false}
 use Rattle.refusal.specs.Refusal.{lengthRefusal, refuseUnless, first}
 use Rattle.refusal.specs.laws.First.{test-refused, test-passed, kept}
-use Rattle.receiver.specs.Receiver.{noSetup, empty, wellFormed}
+use Rattle.receiver.specs.Receiver.{noSetup, empty}
 use Rattle.receiver.specs.declared.Receiver.{Receiver}
 use Rattle.promise_recovery.specs.Calls.{Reachable}
-use Rattle.promise_recovery.specs.laws.Reachable.{reachable-exactly-well-formed}
+use Rattle.promise_recovery.specs.laws.Reachable.{forged, formed}
 use Rattle.pool.specs.Pool.{alike, poolRefusal, poolOf, jointBuffer, commonBuffer, poolNumber, poolJoint, poolCommon}
 use Rattle.pool.specs.declared.Pooled.{Pooled}
 use Rattle.promise_pool.specs.Pooling.{SameSetup}
 use Rattle.pool.specs.laws.PoolAccepted.{alike-setups, pool-unrefused, pool-told}
 
--- a test that cannot hold
-fails : (b : Bool) → (b ≡ true → ⊥) → b ≡ false
-fails true h = absurd (h refl)
-fails false h = refl
-
-forged : (r : Receiver) → length (r .entries) ≡ 256 → (Reachable r → ⊥) → wellFormed r ≡ false
-forged r size h = fails (wellFormed r) (λ w. h (reachable-exactly-well-formed r size .1 w))
-
-formed : (r : Receiver) → length (r .entries) ≡ 256 → Reachable r → wellFormed r ≡ true
-formed r size = reachable-exactly-well-formed r size .0
-
 differ : (a b : Receiver) → (SameSetup a b → ⊥) → alike a b ≡ false
-differ a b h = fails (alike a b) (λ e. h (alike-setups a b e))
+differ a b h = is-false (alike a b) (λ e. h (alike-setups a b e))
 
 same : (a b : Receiver) → SameSetup a b → alike a b ≡ true
 unfolding alike

@@ -19,7 +19,7 @@ use Rattle.numbering.specs.Numbering.{isNumbering, indexOf, indexIn}
 use Rattle.reduce.specs.Reduce.{spaceOf}
 use Rattle.receive.specs.Answer.{spaceAnswer, receivedNumber}
 use Rattle.receiver.specs.Receiver.{Setup, Offer, setupRefusal, wellFormed, holding, takeOf, takeNumber, closeRefusal, closeOf}
-use Rattle.receiver.specs.laws.TakeAccepted.{close-unrefused}
+use Rattle.receiver.specs.laws.TakeAccepted.{unforged, close-unrefused}
 use Rattle.receiver.specs.declared.Taken.{Taken}
 use Rattle.receive.specs.declared.Received.the-variants.{Done, TooFew, TooMany}
 use Rattle.promise_recovery.specs.Calls.{Call, takeValue, takeLent, close, after, accepted, Unforged, none as nothing, more as further}
@@ -126,9 +126,10 @@ module _ (s : Setup) (settings : setupRefusal s ≡ 0) where
           step-fits rows o cs _ f (t .0) (t .1) (next (rows ++ (o .row ∷ [])) (all-append h (more hr none)))
       cases false f =
           let z = take-misfits s settings rows h o f in
-          let t = take-kept s settings rows h o (z .0) in
+          let t = take-kept s settings rows h o z in
           let e = ap (λ x. takeNumber (x .answer)) t in
-          step-misfits rows o cs _ f (ap (λ x. x .receiver) t) (λ g. z .0 (sym e ∙ g)) (λ g. z .1 (sym e ∙ g)) (next rows h)
+          step-misfits rows o cs _ f (ap (λ x. x .receiver) t) (λ g. z (sym e ∙ g))
+          (λ g. unforged (holding s rows) o (well-formed-holding s settings rows h) (sym e ∙ g)) (next rows h)
 
   pub course : (cs : List Call) (rows : List (List ℕ)) → All (Row (s .q) (s .n)) rows → Course s rows cs
   unfolding after accepted offered fitting

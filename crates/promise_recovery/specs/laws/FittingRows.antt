@@ -38,12 +38,10 @@ module _ (s : Setup) (o : Offer) where
         all-of 0 (o .row) (entries-below (s .q) (o .row) (and-right sized below t)),
       )
 
-  pub row-below : Row (s .q) (s .n) (o .row) → entriesBelow (s .q) (o .row) ≡ true
-  row-below h = entries-below-true (s .q) (o .row) (all-at (h .1) 0)
-
   pub own-fits : o .pack ≡ s .pack → Row (s .q) (s .n) (o .row) → fits s o ≡ true
   own-fits own h =
-      ap₂ _&&_ (eq-eqb (o .pack) (s .pack) own) (ap₂ _&&_ (eq-eqb (length (o .row)) (s .n) (h .0)) (row-below h))
+      ap₂ _&&_ (eq-eqb (o .pack) (s .pack) own)
+      (ap₂ _&&_ (eq-eqb (length (o .row)) (s .n) (h .0)) (entries-below-true (s .q) (o .row) (all-at (h .1) 0)))
 
 pub fitting-rows : (s : Setup) (os : List Offer) → All (Row (s .q) (s .n)) (fitting s os)
 unfolding fitting

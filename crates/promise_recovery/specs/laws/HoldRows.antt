@@ -1,24 +1,19 @@
 -- The receivers that pass the test are those that hold some rows, and Take of such a receiver holds one row more.
 --   well-formed-holding    == the receiver that holds some rows passes the test
 --   holding-of-well-formed == a receiver that passes the test holds its rows, and is the one that holds them
---   take-fits, take-misfits == Take names no refusal exactly for a row of its own pack; and never 14
---   take-foreign, take-long, take-large == 17 for another pack, else 4 where the length is not n, else 6
+--   take-fits, take-misfits == Take names no refusal exactly for a row of its own pack
 --   take-tells     == what Take hands back tells of the row
 --   take-taken     == a row taken in: the receiver then holds it after the others
 --   take-kept      == a row refused: the receiver stays
 -- Assumes nothing.
-use mathlib.Core.Path.{_≡_, refl, ap, ap₂, sym, _∙_}
-use mathlib.Core.Bool.{true, false, _&&_}
+use mathlib.Core.Path.{_≡_, refl, ap, sym, _∙_}
+use mathlib.Core.Bool.{true, false}
 use mathlib.Core.List.{List, [], _∷_, _++_}
 use Prim.Native.Nat.{ℕ}
-use native.Mathlib.Decide.{ℕ-discrete}
-use native.Mathlib.Omega.{arith}
-use borrow.Author.Tests.{eq-eqb, ne-eqb}
 use lib.ListN.{length}
-use Rattle.refusal.specs.Refusal.{receiverRefusal, packRefusal, lengthRefusal, entryRefusal}
-use Rattle.refusal.specs.laws.First.{test-refused, test-passed, kept, done}
+use Rattle.basics.specs.laws.Choice.{holds}
+use Rattle.refusal.specs.laws.First.{kept, done}
 use Rattle.field.specs.FieldLaws.{Laws}
-use Rattle.matrix.specs.Matrix.{entriesBelow}
 use Rattle.linear.specs.Span.{All, Row}
 use Rattle.linear.specs.Eliminate.{join, insertRow, reducedRows, reducedOf, dimension}
 use Rattle.linear.specs.laws.ReducedOf.{reducedRows-kept}
@@ -29,12 +24,12 @@ use Rattle.receiver.specs.Receiver.{Setup, Offer, setupOf, setupRefusal, made, 
 use Rattle.receiver.specs.Receiver.{takeRefusal, takenIn, takeOf, takenAs, takeNumber, TakeTells}
 use Rattle.receiver.specs.laws.Sound.{sound, well-formed}
 use Rattle.receiver.specs.laws.Held.{settings-laws, held-kept, held-again, holding-rows, holding-size, holding-sound}
-use Rattle.receiver.specs.laws.TakeAccepted.{take-unrefused, take-told}
+use Rattle.receiver.specs.laws.TakeAccepted.{take-accepted, accepted-row, take-row, take-told}
 use Rattle.receiver.specs.declared.Receiver.{Receiver}
 use Rattle.receiver.specs.declared.Taken.{Taken}
 use Rattle.receiver.specs.declared.TakeAnswer.the-variants.{Refused}
 use Rattle.promise_recovery.specs.Calls.{fits}
-use Rattle.promise_recovery.specs.laws.FittingRows.{row-below}
+use Rattle.promise_recovery.specs.laws.FittingRows.{own-fits}
 
 pub holding-of-well-formed : (r : Receiver) → length (r .entries) ≡ 256 → wellFormed r ≡ true
     → (r ≡ holding (setupOf r) (heldRows r)) × All (Row (r .q) (r .n)) (heldRows r)
@@ -56,42 +51,13 @@ module _ (s : Setup) (settings : setupRefusal s ≡ 0) (rows : List (List ℕ)) 
   module _ (o : Offer) where
     pub take-fits : o .pack ≡ s .pack → Row q n (o .row) → takeRefusal (holding s rows) o ≡ 0
     unfolding holding
-    take-fits own hr = take-unrefused (holding s rows) o well-formed-holding own (hr .0) (row-below s o hr)
+    take-fits own hr = take-row (holding s rows) o well-formed-holding own hr
 
-    pub take-foreign : (o .pack ≡ s .pack → ⊥) → takeRefusal (holding s rows) o ≡ packRefusal
-    unfolding holding takeRefusal
-    take-foreign p = test-passed _ _ _ well-formed-holding ∙ test-refused _ _ _ tt (ne-eqb (o .pack) (s .pack) p)
-
-    module _ (own : o .pack ≡ s .pack) where
-      pub take-long : (length (o .row) ≡ n → ⊥) → takeRefusal (holding s rows) o ≡ lengthRefusal
-      unfolding holding takeRefusal
-      take-long l =
-          test-passed _ _ _ well-formed-holding
-          ∙ test-passed _ _ _ (eq-eqb (o .pack) (s .pack) own)
-          ∙ test-refused _ _ _ tt (ne-eqb (length (o .row)) n l)
-
-      pub take-large : length (o .row) ≡ n → fits s o ≡ false → takeRefusal (holding s rows) o ≡ entryRefusal
-      unfolding holding takeRefusal
-      take-large l e =
-          test-passed _ _ _ well-formed-holding
-          ∙ test-passed _ _ _ (eq-eqb (o .pack) (s .pack) own)
-          ∙ test-passed _ _ _ (eq-eqb (length (o .row)) n l)
-          ∙ test-refused _ _ _ tt
-          (sym (ap₂ (λ p b. p && (b && entriesBelow q (o .row))) (eq-eqb (o .pack) (s .pack) own) (eq-eqb (length (o .row)) n l)) ∙ e)
-
-    pub take-misfits : fits s o ≡ false
-        → (takeRefusal (holding s rows) o ≡ 0 → ⊥) × (takeRefusal (holding s rows) o ≡ receiverRefusal → ⊥)
-    take-misfits e = cases (ℕ-discrete (o .pack) (s .pack)) (ℕ-discrete (length (o .row)) n)
-      where
-        apart : {number : ℕ} → takeRefusal (holding s rows) o ≡ number → (number ≡ 0 → ⊥) × (number ≡ receiverRefusal → ⊥)
-            → (takeRefusal (holding s rows) o ≡ 0 → ⊥) × (takeRefusal (holding s rows) o ≡ receiverRefusal → ⊥)
-        apart is other = (λ z. other .0 (sym is ∙ z), λ z. other .1 (sym is ∙ z))
-
-        cases : Dec (o .pack ≡ s .pack) → Dec (length (o .row) ≡ n)
-            → (takeRefusal (holding s rows) o ≡ 0 → ⊥) × (takeRefusal (holding s rows) o ≡ receiverRefusal → ⊥)
-        cases (no p) l = apart (take-foreign p) (λ z. omega arith, λ z. omega arith)
-        cases (yes p) (no l) = apart (take-long p l) (λ z. omega arith, λ z. omega arith)
-        cases (yes p) (yes l) = apart (take-large p l e) (λ z. omega arith, λ z. omega arith)
+    pub take-misfits : fits s o ≡ false → takeRefusal (holding s rows) o ≡ 0 → ⊥
+    unfolding holding
+    take-misfits e z =
+        let a = take-accepted (holding s rows) o z in
+        holds false (sym e ∙ own-fits s o (a .own) (accepted-row (holding s rows) o a))
 
     -- a reduced row more is a row more
     one-more : reducedRows q n (heldRows (holding s rows) ++ (o .row ∷ [])) ≡ reducedRows q n (rows ++ (o .row ∷ []))

@@ -5,13 +5,15 @@
 --   reachable-size    == such a receiver has 256 entries
 --   after-reachable   == a list of calls from an accepted Start leaves one
 --   reachable-exactly-well-formed == a receiver with 256 entries, as every real one has, is reachable exactly where the test holds
+--   forged, formed    == so the test of one that is not fails, and that of one that is holds
 -- Assumes nothing.
 use mathlib.Core.Path.{_≡_, refl, ap, sym, _∙_, subst}
-use mathlib.Core.Bool.{true}
+use mathlib.Core.Bool.{true, false}
 use mathlib.Core.List.{List, [], _∷_, _++_, append-nil, append-assoc}
 use mathlib.Core.Logic.{_↔_}
 use Prim.Native.Nat.{ℕ}
 use lib.ListN.{length}
+use Rattle.basics.specs.laws.Choice.{is-false}
 use Rattle.linear.specs.Span.{All, none, more, Row}
 use Rattle.linear.specs.laws.Every.{all-append}
 use Rattle.receiver.specs.Receiver.{Setup, Offer, offer, setupOf, setupRefusal, wellFormed, heldRows, holding, takeOf}
@@ -88,3 +90,10 @@ reachable-exactly-well-formed r size = (there, back)
     back w =
         let h = holding-of-well-formed r size w in
         subst Reachable (sym (h .0)) (holding-reachable (setupOf r) (sound r size w .settings) (heldRows r) (h .1))
+
+module _ (r : Receiver) (size : length (r .entries) ≡ 256) where
+  pub forged : (Reachable r → ⊥) → wellFormed r ≡ false
+  forged h = is-false (wellFormed r) (λ w. h (reachable-exactly-well-formed r size .1 w))
+
+  pub formed : Reachable r → wellFormed r ≡ true
+  formed = reachable-exactly-well-formed r size .0

@@ -1,6 +1,8 @@
 -- Calls on a receiver that are not refused, and what the answers tell; no part of the meaning.
 --   TakeAccepted, CloseAccepted == what holds where none refuses
 --   take-accepted, take-unrefused, close-accepted, close-unrefused == it is so exactly there
+--   take-forged, -foreign, -long, -large, -row == which refusal Take names; none for a row of the receiver's pack
+--   foreign-only, unforged      == 17 is named for no row of the receiver's pack, and 14 for no receiver that passes the test
 --   accepted-row                == a row that is not refused is a row
 --   zero-idle                   == a zero row taken in leaves the receiver, with the answer "idle"
 --   take-told, close-told       == the numbers and values that an answer of Take or Close tells
@@ -8,21 +10,21 @@
 use mathlib.Core.Path.{_≡_, refl, ap, ap₂, sym, _∙_, subst}
 use mathlib.Core.Bool.{Bool, true, false, _&&_}
 use mathlib.Core.List.{[], _∷_, _++_}
-use Prim.Native.Nat.{ℕ}
+use Prim.Native.Nat.{ℕ, _≤_}
 use native.Mathlib.Decide.{ℕ-discrete}
 use native.Mathlib.Omega.{arith}
 use borrow.Author.Tests.{eq-eqb, ne-eqb, eqb-true, le-ltb, ltb-false}
 use lib.Dec.{T, eqb, ltb}
 use lib.ListN.{length}
 use Rattle.basics.specs.Choice.{pick}
-use Rattle.basics.specs.laws.Choice.{holds}
+use Rattle.basics.specs.laws.Choice.{is-false, holds}
 use Rattle.refusal.specs.Refusal.{receiverRefusal, packRefusal, lengthRefusal, entryRefusal, numberingRefusal, refuseUnless}
-use Rattle.refusal.specs.laws.First.{test-zero, test-passed, first-none, kept, done}
+use Rattle.refusal.specs.laws.First.{test-zero, test-refused, test-passed, first-none, kept, done}
 use Rattle.matrix.specs.Matrix.{entriesBelow}
-use Rattle.matrix.specs.laws.Tests.{entries-below}
+use Rattle.matrix.specs.laws.Tests.{entries-below, entries-below-true}
 use Rattle.linear.specs.Span.{Row, InSpan}
 use Rattle.linear.specs.Eliminate.{dimension}
-use Rattle.linear.specs.laws.Every.{all-of}
+use Rattle.linear.specs.laws.Every.{all-at, all-of}
 use Rattle.numbering.specs.Numbering.{isNumbering}
 use Rattle.receive.specs.Answer.{Told}
 use Rattle.receive.specs.laws.Space.{space-told, refused-told}
@@ -67,6 +69,55 @@ module _ (r : Receiver) (o : Offer) where
       test-passed _ _ _ w ∙ test-passed _ _ _ (eq-eqb (o .pack) (r .pack) p) ∙ test-passed _ _ _ (eq-eqb (length (o .row)) (r .n) l)
       ∙ test-passed _ _ _ e
       ∙ first-none
+
+  pub take-forged : wellFormed r ≡ false → takeRefusal r o ≡ receiverRefusal
+  unfolding takeRefusal
+  take-forged w = test-refused _ _ _ tt w
+
+  module _ (w : wellFormed r ≡ true) where
+    pub take-foreign : (o .pack ≡ r .pack → ⊥) → takeRefusal r o ≡ packRefusal
+    unfolding takeRefusal
+    take-foreign p = test-passed _ _ _ w ∙ test-refused _ _ _ tt (ne-eqb (o .pack) (r .pack) p)
+
+    module _ (own : o .pack ≡ r .pack) where
+      pub take-long : (length (o .row) ≡ r .n → ⊥) → takeRefusal r o ≡ lengthRefusal
+      unfolding takeRefusal
+      take-long l =
+          test-passed _ _ _ w ∙ test-passed _ _ _ (eq-eqb (o .pack) (r .pack) own)
+          ∙ test-refused _ _ _ tt (ne-eqb (length (o .row)) (r .n) l)
+
+      pub take-large : length (o .row) ≡ r .n → (Row (r .q) (r .n) (o .row) → ⊥) → takeRefusal r o ≡ entryRefusal
+      unfolding takeRefusal
+      take-large l outside =
+          test-passed _ _ _ w ∙ test-passed _ _ _ (eq-eqb (o .pack) (r .pack) own)
+          ∙ test-passed _ _ _ (eq-eqb (length (o .row)) (r .n) l)
+          ∙ test-refused _ _ _ tt (is-false (entriesBelow (r .q) (o .row)) over)
+        where
+          over : entriesBelow (r .q) (o .row) ≡ true → ⊥
+          over e = outside (l, all-of 0 (o .row) (entries-below (r .q) (o .row) (holds (entriesBelow (r .q) (o .row)) e)))
+
+      pub take-row : Row (r .q) (r .n) (o .row) → takeRefusal r o ≡ 0
+      take-row h = take-unrefused w own (h .0) (entries-below-true (r .q) (o .row) (all-at (h .1) 0))
+
+      -- 4, 6 or none
+      low : Dec (length (o .row) ≡ r .n) → (b : Bool) → entriesBelow (r .q) (o .row) ≡ b → takeRefusal r o ≤ 6
+      low (no l) b e = let z = take-long l in omega (arith, z)
+      low (yes l) true e = let z = take-unrefused w own l e in omega (arith, z)
+      low (yes l) false e =
+          let z = take-large l (λ h. holds false (sym e ∙ entries-below-true (r .q) (o .row) (all-at (h .1) 0))) in omega (arith, z)
+
+      own-low : takeRefusal r o ≤ 6
+      own-low = low (ℕ-discrete (length (o .row)) (r .n)) (entriesBelow (r .q) (o .row)) refl
+
+    pub foreign-only : takeRefusal r o ≡ packRefusal → o .pack ≡ r .pack → ⊥
+    foreign-only told own = omega (arith, told, own-low own)
+
+    pub unforged : takeRefusal r o ≡ receiverRefusal → ⊥
+    unforged told = cases (ℕ-discrete (o .pack) (r .pack))
+      where
+        cases : Dec (o .pack ≡ r .pack) → ⊥
+        cases (no p) = let e = take-foreign p in omega (arith, told, e)
+        cases (yes own) = omega (arith, told, own-low own)
 
   -- what the answers for a row taken in tell, where a zero row does not let the dimension grow
   accepted-number : (zero grew : Bool) → takeNumber (pick zero Idle (pick grew Raised Held)) ≡ 0
