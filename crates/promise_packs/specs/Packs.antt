@@ -2,18 +2,16 @@
 -- rack the rows of two packs arrive by turns, and joined they give a lawful record of neither. A receiver gets a pack number, 0 to 65535, at
 -- its start, and each row given to Take is offered with one .. In the promise about mixed rows, a row offered for another pack is one of
 -- the refused."
---   own pack os     == what of os is offered for the pack
 --   repacked r pack == the receiver r with this pack number in it
 --   Turns xs ys zs  == zs is xs and ys, put together by turns in any way, each in its own sequence
---   Rack s os cs    == a receiver with the setup s, to which the calls cs offer os among others' rows: it accepts what is offered for its
---                      own pack and fits, and nothing else; and where that is Mixed from a drawn matrix, closing answers as demand 3 says
+--   Rack s os cs    == a receiver with the setup s, to which the calls cs offer os, the rows of several packs: it accepts those that fit, and
+--                      so are offered for its own pack, and no others; and where these are Mixed from a drawn matrix, closing answers as
+--                      demand 3 says
 -- Assumes nothing.
 use mathlib.Core.Path.{_≡_}
 use mathlib.Core.Bool.{true}
 use mathlib.Core.List.{List, [], _∷_}
 use Prim.Native.Nat.{ℕ, _<_}
-use lib.Dec.{eqb}
-use Rattle.basics.specs.Choice.{pick}
 use Rattle.linear.specs.Span.{All, Mixed, rowsOf}
 use Rattle.numbering.specs.Numbering.{isNumbering}
 use Rattle.drawing.specs.Drawing.{drawing}
@@ -21,10 +19,6 @@ use Rattle.receiver.specs.Receiver.{Setup, Offer, made, setup}
 use Rattle.receiver.specs.declared.Receiver.{Receiver}
 use Rattle.promise_recovery.specs.Calls.{Call, begun, accepted, fitting}
 use Rattle.promise_recovery.specs.Demand.{Buffer, Recovery}
-
-unfoldable pub own : ℕ → List Offer → List Offer
-own pack [] = []
-own pack (o ∷ os) = pick (eqb (o .pack) pack) (o ∷ own pack os) (own pack os)
 
 abbrev pub repacked : Receiver → ℕ → Receiver
 repacked r pack = made (setup (r .q) (r .n) (r .k) pack) (r .dimension) (r .entries)
@@ -35,8 +29,8 @@ pub data Turns {A : Type 0} : List A → List A → List A → Type 0 where
   second : {y : A} {xs ys zs : List A} → Turns xs ys zs → Turns xs (y ∷ ys) (y ∷ zs)
 
 pub record Rack (s : Setup) (os : List Offer) (cs : List Call) : Type 0 where
-  pub accepts : accepted (begun s) cs ≡ fitting s (own (s .pack) os)
+  pub accepts : accepted (begun s) cs ≡ fitting s os
   pub recovers : (t : ℕ) → isNumbering t ≡ true → let D = drawing (s .q) (s .n) (s .k) t in
       (i : ℕ) → i < D .count → (b : List ℕ) → Buffer (s .n) (s .k) b
-      → All (Mixed (s .q) (s .n) (rowsOf (s .n) (s .k) (D .leaves i b))) (fitting s (own (s .pack) os))
+      → All (Mixed (s .q) (s .n) (rowsOf (s .n) (s .k) (D .leaves i b))) (fitting s os)
       → Recovery s t i cs

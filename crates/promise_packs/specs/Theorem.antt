@@ -31,8 +31,8 @@ use Rattle.promise_recovery.specs.laws.After.{after-pack, accepted-fits}
 use Rattle.promise_recovery.specs.laws.Reachable.{reachable-size, after-reachable, reachable-exactly-well-formed, formed}
 use Rattle.promise_recovery.specs.laws.Whole.{Among, offers, all-offers, among-offers, each-among, drawn-rows-recovered}
 use Rattle.promise_idle.specs.Idle.{TakenBy}
-use Rattle.promise_packs.specs.Packs.{own, repacked, Turns, Rack}
-use Rattle.promise_packs.specs.laws.Offers.{fitting-own, turns-swap, turns-all, turns-among, offers-foreign}
+use Rattle.promise_packs.specs.Packs.{repacked, Turns, Rack}
+use Rattle.promise_packs.specs.laws.Offers.{turns-swap, turns-all, turns-among, offers-foreign}
 use Rattle.promise_packs.specs.laws.Refuses.{number-of, refused-leaves, refused-by, forged-exactly, foreign-exactly}
 
 -- one of the two receivers
@@ -43,8 +43,8 @@ racked s settings os cs given =
       recovers = λ t known i h b l mixed. demand-3 s t settings known .recovery i h b l cs (subst (All _) (sym accepts) mixed);
     }
   where
-    accepts : accepted (begun s) cs ≡ fitting s (own (s .pack) os)
-    accepts = accepted-fits s settings cs ∙ ap (fitting s) given ∙ sym (fitting-own s os)
+    accepts : accepted (begun s) cs ≡ fitting s os
+    accepts = accepted-fits s settings cs ∙ ap (fitting s) given
 
 -- what one accepts the other refuses
 refuses-other : (s other : Setup) → setupRefusal s ≡ 0 → setupRefusal other ≡ 0 → (s .pack ≡ other .pack → ⊥) → (cs ds : List Call)
@@ -140,20 +140,20 @@ pub order-8 :
     -- let both be given one list of offers, by calls in either form and with any Close among them.)
     × ((s other : Setup) → setupRefusal s ≡ 0 → setupRefusal other ≡ 0 → (s .pack ≡ other .pack → ⊥)
     → (os : List Offer) (cs ds : List Call) → offered cs ≡ os → offered ds ≡ os
-    -- (Each accepts its own pack's fitting rows and no others: what one accepts the other refuses with 17.)
-    → (accepted (begun s) cs ≡ fitting s (own (s .pack) os))
-    × (accepted (begun other) ds ≡ fitting other (own (other .pack) os))
+    -- (Each accepts the rows that are offered for its own pack and fit, and no others: what one accepts the other refuses with 17.)
+    → (accepted (begun s) cs ≡ fitting s os)
+    × (accepted (begun other) ds ≡ fitting other os)
     × ((o : Offer) (t u : Taken) → TakenBy (after (begun s) cs) o t → TakenBy (after (begun other) ds) o u
     → (takeNumber (t .answer) ≡ 0 → u .answer ≡ Refused 17) × (takeNumber (u .answer) ≡ 0 → t .answer ≡ Refused 17))
-    -- "In the promise about mixed rows, a row offered for another pack is one of the refused." (Where the fitting rows of its own pack are
-    -- mixed from one drawn matrix, each closes as demand 3 says, whatever came for the other.)
+    -- "In the promise about mixed rows, a row offered for another pack is one of the refused." (Where the rows that fit are mixed from one drawn
+    -- matrix, each closes as demand 3 says, whatever came for the other.)
     × ((t : ℕ) → isNumbering t ≡ true → let D = drawing (s .q) (s .n) (s .k) t in
     (i : ℕ) → i < D .count → (b : List ℕ) → length b ≡ s .k * s .n
-    → All (Mixed (s .q) (s .n) (rowsOf (s .n) (s .k) (D .leaves i b))) (fitting s (own (s .pack) os))
+    → All (Mixed (s .q) (s .n) (rowsOf (s .n) (s .k) (D .leaves i b))) (fitting s os)
     → Recovery s t i cs)
     × ((t : ℕ) → isNumbering t ≡ true → let D = drawing (other .q) (other .n) (other .k) t in
     (i : ℕ) → i < D .count → (b : List ℕ) → length b ≡ other .k * other .n
-    → All (Mixed (other .q) (other .n) (rowsOf (other .n) (other .k) (D .leaves i b))) (fitting other (own (other .pack) os))
+    → All (Mixed (other .q) (other .n) (rowsOf (other .n) (other .k) (D .leaves i b))) (fitting other os)
     → Recovery other t i ds)
     -- (So where what is offered is the rows of two drawn matrices, for the two packs, by turns in any way, each receiver closes to its own
     -- index.)

@@ -42,9 +42,9 @@ pub data Call : Type 0 where
   reduce : (q n r : ℕ) (rows output : List ℕ) → Call
   receive : (q n k t r : ℕ) (rows : List ℕ) → Call
   receiveC : (q n k t r : ℕ) (rows bytes : List ℕ) → Call
-  start : (q n k : ℕ) → Call
-  takeValue : (r : Receiver) (row : List ℕ) → Call
-  takeLent : (r : Receiver) (row : List ℕ) → Call
+  start : (q n k pack : ℕ) → Call
+  takeValue : (r : Receiver) (pack : ℕ) (row : List ℕ) → Call
+  takeLent : (r : Receiver) (pack : ℕ) (row : List ℕ) → Call
   close : (r : Receiver) (t : ℕ) → Call
   pool : (a b : Receiver) (joint common : List ℕ) → Call
   list : (input : List ℕ) → Call
@@ -55,11 +55,11 @@ pub data Call : Type 0 where
 abbrev pub lent : ℕ → List ℕ
 lent size = replicate size 165
 
-abbrev pub receiver : ℕ → ℕ → ℕ → ℕ → List ℕ → Receiver
-receiver q n k dimension entries = made (setup q n k) dimension (entries ++ replicate (256 - length entries) 0)
+abbrev pub receiver : ℕ → ℕ → ℕ → ℕ → ℕ → List ℕ → Receiver
+receiver q n k pack dimension entries = made (setup q n k pack) dimension (entries ++ replicate (256 - length entries) 0)
 
 abbrev pub image : Receiver → List ℕ
-image r = r .q ∷ r .n ∷ r .k ∷ r .dimension ∷ r .entries
+image r = r .q ∷ r .n ∷ r .k ∷ r .dimension ∷ r .pack ∷ r .entries
 
 -- what Receive and Close tell
 abbrev received : Received → List ℕ
@@ -84,9 +84,9 @@ answer (reduce q n r rows output) =
     ∷ reduceBuffer q n r rows output
 answer (receive q n k t r rows) = received (receiveOf q n k t r rows)
 answer (receiveC q n k t r rows bytes) = exportedNumber q n k t r rows (length bytes) ∷ exportedBytes q n k t r rows bytes
-answer (start q n k) = let s = startOf (setup q n k) in startNumber s ∷ image (s .receiver)
-answer (takeValue r row) = let t = takeOf r (offer row) in takes (t .answer) ++ image (t .receiver)
-answer (takeLent r row) = takes (lentAnswer r (offer row)) ++ image (lentReceiver r (offer row))
+answer (start q n k pack) = let s = startOf (setup q n k pack) in startNumber s ∷ image (s .receiver)
+answer (takeValue r pack row) = let t = takeOf r (offer pack row) in takes (t .answer) ++ image (t .receiver)
+answer (takeLent r pack row) = takes (lentAnswer r (offer pack row)) ++ image (lentReceiver r (offer pack row))
 answer (close r t) = received (closeOf r t)
 answer (pool a b joint common) =
     let p = poolOf a b (length joint) (length common) in

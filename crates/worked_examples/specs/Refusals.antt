@@ -9,66 +9,86 @@ use Rattle.worked_examples.specs.Answer.{Example, _⇒_, lent, receiver,
 use Rattle.worked_examples.specs.Answer.{count, draw, drawBatch, number, convert, reduce, receive, receiveC}
 use Rattle.worked_examples.specs.Answer.{start, takeValue, takeLent, close, pool, list, listable, write}
 
--- receivers of 2,3,2 that hold no row, the row 110, the rows 101/011, and all three unit rows; one of 2,3,1 that holds 010
+-- receivers of the pack 258, of 2,3,2: that hold no row, the row 110, the rows 101/011, and all three unit rows; one of 2,3,1 that holds 010
 abbrev noRows : Receiver
-noRows = receiver 2 3 2 0 []
+noRows = receiver 2 3 2 258 0 []
 
 abbrev oneRow : Receiver
-oneRow = receiver 2 3 2 1 (1 ∷ 1 ∷ 0 ∷ [])
+oneRow = receiver 2 3 2 258 1 (1 ∷ 1 ∷ 0 ∷ [])
 
 abbrev twoRows : Receiver
-twoRows = receiver 2 3 2 2 (1 ∷ 0 ∷ 1 ∷ 0 ∷ 1 ∷ 1 ∷ [])
+twoRows = receiver 2 3 2 258 2 (1 ∷ 0 ∷ 1 ∷ 0 ∷ 1 ∷ 1 ∷ [])
 
 abbrev threeRows : Receiver
-threeRows = receiver 2 3 2 3 (1 ∷ 0 ∷ 0 ∷ 0 ∷ 1 ∷ 0 ∷ 0 ∷ 0 ∷ 1 ∷ [])
+threeRows = receiver 2 3 2 258 3 (1 ∷ 0 ∷ 0 ∷ 0 ∷ 1 ∷ 0 ∷ 0 ∷ 0 ∷ 1 ∷ [])
 
 abbrev middle : Receiver
-middle = receiver 2 3 1 1 (0 ∷ 1 ∷ 0 ∷ [])
+middle = receiver 2 3 1 258 1 (0 ∷ 1 ∷ 0 ∷ [])
 
--- receivers of 2,3,2 that hold 100/010, and 010/001; of 3,2,1 that hold 12, and 10; like the first, but for q, for n and for k
+-- receivers of 2,3,2 that hold 100/010, and 010/001; of 3,2,1 that hold 12, and 10; like the first, but for q, for n and for k; and like the
+-- second, but for the high byte of the pack, and for the low one
 abbrev leftPlane : Receiver
-leftPlane = receiver 2 3 2 2 (1 ∷ 0 ∷ 0 ∷ 0 ∷ 1 ∷ 0 ∷ [])
+leftPlane = receiver 2 3 2 258 2 (1 ∷ 0 ∷ 0 ∷ 0 ∷ 1 ∷ 0 ∷ [])
 
 abbrev rightPlane : Receiver
-rightPlane = receiver 2 3 2 2 (0 ∷ 1 ∷ 0 ∷ 0 ∷ 0 ∷ 1 ∷ [])
+rightPlane = receiver 2 3 2 258 2 (0 ∷ 1 ∷ 0 ∷ 0 ∷ 0 ∷ 1 ∷ [])
 
 abbrev slanted : Receiver
-slanted = receiver 3 2 1 1 (1 ∷ 2 ∷ [])
+slanted = receiver 3 2 1 258 1 (1 ∷ 2 ∷ [])
 
 abbrev level : Receiver
-level = receiver 3 2 1 1 (1 ∷ 0 ∷ [])
+level = receiver 3 2 1 258 1 (1 ∷ 0 ∷ [])
 
 abbrev otherField : Receiver
-otherField = receiver 3 3 2 2 (1 ∷ 0 ∷ 0 ∷ 0 ∷ 1 ∷ 0 ∷ [])
+otherField = receiver 3 3 2 258 2 (1 ∷ 0 ∷ 0 ∷ 0 ∷ 1 ∷ 0 ∷ [])
 
 abbrev otherLength : Receiver
-otherLength = receiver 2 4 2 0 []
+otherLength = receiver 2 4 2 258 0 []
 
 abbrev otherDimension : Receiver
-otherDimension = receiver 2 3 1 2 (1 ∷ 0 ∷ 0 ∷ 0 ∷ 1 ∷ 0 ∷ [])
+otherDimension = receiver 2 3 1 258 2 (1 ∷ 0 ∷ 0 ∷ 0 ∷ 1 ∷ 0 ∷ [])
+
+abbrev otherPack : Receiver
+otherPack = receiver 2 3 2 514 2 (0 ∷ 1 ∷ 0 ∷ 0 ∷ 0 ∷ 1 ∷ [])
+
+abbrev nextPack : Receiver
+nextPack = receiver 2 3 2 259 2 (0 ∷ 1 ∷ 0 ∷ 0 ∷ 0 ∷ 1 ∷ [])
+
+-- the row 110 in receivers of the first and of the last pack, and what they hold with 011
+abbrev firstPack : Receiver
+firstPack = receiver 2 3 2 0 1 (1 ∷ 1 ∷ 0 ∷ [])
+
+abbrev lastPack : Receiver
+lastPack = receiver 2 3 2 65535 1 (1 ∷ 1 ∷ 0 ∷ [])
+
+abbrev firstPlane : Receiver
+firstPlane = receiver 2 3 2 0 2 (1 ∷ 0 ∷ 1 ∷ 0 ∷ 1 ∷ 1 ∷ [])
+
+abbrev lastPlane : Receiver
+lastPlane = receiver 2 3 2 65535 2 (1 ∷ 0 ∷ 1 ∷ 0 ∷ 1 ∷ 1 ∷ [])
 
 -- receivers that Start and Take cannot leave: of all zeros; a dimension above n; no field size; an entry of q; a zero row; entries that
 -- are not 0 where there is no row, and behind a row
 abbrev zeros : Receiver
-zeros = receiver 0 0 0 0 []
+zeros = receiver 0 0 0 0 0 []
 
 abbrev tooManyRows : Receiver
-tooManyRows = receiver 2 3 2 4 []
+tooManyRows = receiver 2 3 2 258 4 []
 
 abbrev noField : Receiver
-noField = receiver 6 3 2 0 []
+noField = receiver 6 3 2 258 0 []
 
 abbrev oversized : Receiver
-oversized = receiver 2 3 2 1 (2 ∷ 0 ∷ 0 ∷ [])
+oversized = receiver 2 3 2 258 1 (2 ∷ 0 ∷ 0 ∷ [])
 
 abbrev zeroRow : Receiver
-zeroRow = receiver 2 3 2 1 (0 ∷ 0 ∷ 0 ∷ [])
+zeroRow = receiver 2 3 2 258 1 (0 ∷ 0 ∷ 0 ∷ [])
 
 abbrev leftOver : Receiver
-leftOver = receiver 2 3 2 0 (1 ∷ [])
+leftOver = receiver 2 3 2 258 0 (1 ∷ [])
 
 abbrev behindTheRow : Receiver
-behindTheRow = receiver 2 3 2 1 (1 ∷ 1 ∷ 0 ∷ 1 ∷ [])
+behindTheRow = receiver 2 3 2 258 1 (1 ∷ 1 ∷ 0 ∷ 1 ∷ [])
 
 -- `refused,1` and a line feed
 abbrev refused1 : List ℕ
@@ -279,12 +299,14 @@ refusals =
     -- and where none applies: the index 928, least byte first, then the dimension and the vector
     ∷ (receiveC 2 6 3 1 3 paper (lent 11) ⇒ (0 ∷ (160 ∷ 3 ∷ 0 ∷ 0 ∷ 0 ∷ 0 ∷ 0 ∷ 0 ∷ 3 ∷ 22 ∷ 0 ∷ [])))
     -- Pool: the refusal number, the dimensions of the joint and of the common space, the receiver, of all zeros where it refuses, and both
-    -- buffers; 14 for the first receiver and for the second; 16 where q, n or k differ; 4 for the first buffer and for the second
+    -- buffers; 14 for the first receiver and for the second; 16 where q, n, k or the packs differ; 4 for the first buffer and for the second
     ∷ (pool zeroRow rightPlane (lent 9) (lent 9) ⇒ (14 ∷ 0 ∷ 0 ∷ image zeros ++ (lent 9 ++ lent 9)))
     ∷ (pool leftPlane leftOver (lent 9) (lent 9) ⇒ (14 ∷ 0 ∷ 0 ∷ image zeros ++ (lent 9 ++ lent 9)))
     ∷ (pool leftPlane otherField (lent 9) (lent 9) ⇒ (16 ∷ 0 ∷ 0 ∷ image zeros ++ (lent 9 ++ lent 9)))
     ∷ (pool leftPlane otherLength (lent 9) (lent 9) ⇒ (16 ∷ 0 ∷ 0 ∷ image zeros ++ (lent 9 ++ lent 9)))
     ∷ (pool leftPlane otherDimension (lent 9) (lent 9) ⇒ (16 ∷ 0 ∷ 0 ∷ image zeros ++ (lent 9 ++ lent 9)))
+    ∷ (pool leftPlane otherPack (lent 9) (lent 9) ⇒ (16 ∷ 0 ∷ 0 ∷ image zeros ++ (lent 9 ++ lent 9)))
+    ∷ (pool nextPack leftPlane (lent 9) (lent 9) ⇒ (16 ∷ 0 ∷ 0 ∷ image zeros ++ (lent 9 ++ lent 9)))
     ∷ (pool leftPlane rightPlane (lent 8) (lent 9) ⇒ (4 ∷ 0 ∷ 0 ∷ image zeros ++ (lent 8 ++ lent 9)))
     ∷ (pool leftPlane rightPlane (lent 10) (lent 9) ⇒ (4 ∷ 0 ∷ 0 ∷ image zeros ++ (lent 10 ++ lent 9)))
     ∷ (pool leftPlane rightPlane (lent 9) (lent 8) ⇒ (4 ∷ 0 ∷ 0 ∷ image zeros ++ (lent 9 ++ lent 8)))
@@ -295,6 +317,9 @@ refusals =
     ∷ (pool otherField leftOver (lent 9) (lent 9) ⇒ (14 ∷ 0 ∷ 0 ∷ image zeros ++ (lent 9 ++ lent 9)))
     ∷ (pool leftPlane otherLength (lent 8) (lent 9) ⇒ (16 ∷ 0 ∷ 0 ∷ image zeros ++ (lent 8 ++ lent 9)))
     ∷ (pool leftPlane otherField (lent 9) (lent 10) ⇒ (16 ∷ 0 ∷ 0 ∷ image zeros ++ (lent 9 ++ lent 10)))
+    ∷ (pool leftPlane otherPack (lent 8) (lent 9) ⇒ (16 ∷ 0 ∷ 0 ∷ image zeros ++ (lent 8 ++ lent 9)))
+    ∷ (pool otherPack leftPlane (lent 9) (lent 10) ⇒ (16 ∷ 0 ∷ 0 ∷ image zeros ++ (lent 9 ++ lent 10)))
+    ∷ (pool otherPack leftOver (lent 9) (lent 9) ⇒ (14 ∷ 0 ∷ 0 ∷ image zeros ++ (lent 9 ++ lent 9)))
     ∷ (pool leftPlane leftOver (lent 9) (lent 8) ⇒ (14 ∷ 0 ∷ 0 ∷ image zeros ++ (lent 9 ++ lent 8)))
     ∷ (pool zeroRow rightPlane (lent 8) (lent 9) ⇒ (14 ∷ 0 ∷ 0 ∷ image zeros ++ (lent 8 ++ lent 9)))
     -- and where none applies: two planes have the whole space and the line 010; 12 and 10 over three elements the plane and nothing; a
@@ -302,59 +327,84 @@ refusals =
     ∷ (pool leftPlane rightPlane (lent 9) (lent 9)
     ⇒ (0 ∷ 3 ∷ 1 ∷ image threeRows ++ (1 ∷ 0 ∷ 0 ∷ 0 ∷ 1 ∷ 0 ∷ 0 ∷ 0 ∷ 1 ∷ 0 ∷ 1 ∷ 0 ∷ 0 ∷ 0 ∷ 0 ∷ 0 ∷ 0 ∷ 0 ∷ [])))
     ∷ (pool slanted level (lent 4) (lent 4)
-    ⇒ (0 ∷ 2 ∷ 0 ∷ image (receiver 3 2 1 2 (1 ∷ 0 ∷ 0 ∷ 1 ∷ [])) ++ (1 ∷ 0 ∷ 0 ∷ 1 ∷ 0 ∷ 0 ∷ 0 ∷ 0 ∷ [])))
+    ⇒ (0 ∷ 2 ∷ 0 ∷ image (receiver 3 2 1 258 2 (1 ∷ 0 ∷ 0 ∷ 1 ∷ [])) ++ (1 ∷ 0 ∷ 0 ∷ 1 ∷ 0 ∷ 0 ∷ 0 ∷ 0 ∷ [])))
     ∷ (pool noRows twoRows (lent 9) (lent 9)
     ⇒ (0 ∷ 2 ∷ 0 ∷ image twoRows ++ (1 ∷ 0 ∷ 1 ∷ 0 ∷ 1 ∷ 1 ∷ 0 ∷ 0 ∷ 0 ∷ 0 ∷ 0 ∷ 0 ∷ 0 ∷ 0 ∷ 0 ∷ 0 ∷ 0 ∷ 0 ∷ [])))
-    -- Start: the refusal number, and the receiver, which is of all zeros where it refuses
-    ∷ (start 6 3 1 ⇒ (1 ∷ (image zeros)))
-    ∷ (start 2 17 1 ⇒ (2 ∷ (image zeros)))
-    ∷ (start 7 10 5 ⇒ (3 ∷ (image zeros)))
-    ∷ (start 6 17 1 ⇒ (1 ∷ (image zeros)))
-    ∷ (start 2 17 8 ⇒ (2 ∷ (image zeros)))
-    ∷ (start 2 3 1 ⇒ (0 ∷ (2 ∷ 3 ∷ 1 ∷ 0 ∷ replicate 256 0)))
+    -- Start: the refusal number, and the receiver, which is of all zeros where it refuses, the pack too
+    ∷ (start 6 3 1 258 ⇒ (1 ∷ (image zeros)))
+    ∷ (start 2 17 1 258 ⇒ (2 ∷ (image zeros)))
+    ∷ (start 7 10 5 258 ⇒ (3 ∷ (image zeros)))
+    ∷ (start 6 17 1 65535 ⇒ (1 ∷ (image zeros)))
+    ∷ (start 2 17 8 0 ⇒ (2 ∷ (image zeros)))
+    ∷ (start 2 3 1 258 ⇒ (0 ∷ (2 ∷ 3 ∷ 1 ∷ 0 ∷ 258 ∷ replicate 256 0)))
+    ∷ (start 2 3 1 0 ⇒ (0 ∷ (2 ∷ 3 ∷ 1 ∷ 0 ∷ 0 ∷ replicate 256 0)))
+    ∷ (start 2 3 1 65535 ⇒ (0 ∷ (2 ∷ 3 ∷ 1 ∷ 0 ∷ 65535 ∷ replicate 256 0)))
     -- Take, by value and lent: the refusal number, 1 for "raised", 1 for "idle", and the receiver; zeros are idle on a receiver of any
-    -- dimension, but not where they are refused: two of them, or before an entry of q, or on no receiver
-    ∷ (takeValue tooManyRows (0 ∷ 1 ∷ 1 ∷ []) ⇒ (14 ∷ 0 ∷ 0 ∷ (image tooManyRows)))
-    ∷ (takeValue noField (0 ∷ 1 ∷ 1 ∷ []) ⇒ (14 ∷ 0 ∷ 0 ∷ (image noField)))
-    ∷ (takeValue oversized (0 ∷ 1 ∷ 1 ∷ []) ⇒ (14 ∷ 0 ∷ 0 ∷ (image oversized)))
-    ∷ (takeValue zeroRow (0 ∷ 1 ∷ 1 ∷ []) ⇒ (14 ∷ 0 ∷ 0 ∷ (image zeroRow)))
-    ∷ (takeValue leftOver (0 ∷ 1 ∷ 1 ∷ []) ⇒ (14 ∷ 0 ∷ 0 ∷ (image leftOver)))
-    ∷ (takeValue oneRow (0 ∷ 1 ∷ []) ⇒ (4 ∷ 0 ∷ 0 ∷ (image oneRow)))
-    ∷ (takeValue oneRow (0 ∷ 1 ∷ 1 ∷ 0 ∷ []) ⇒ (4 ∷ 0 ∷ 0 ∷ (image oneRow)))
-    ∷ (takeValue oneRow (0 ∷ 2 ∷ 1 ∷ []) ⇒ (6 ∷ 0 ∷ 0 ∷ (image oneRow)))
-    ∷ (takeValue zeros (2 ∷ []) ⇒ (14 ∷ 0 ∷ 0 ∷ (image zeros)))
-    ∷ (takeValue oneRow (2 ∷ []) ⇒ (4 ∷ 0 ∷ 0 ∷ (image oneRow)))
-    ∷ (takeValue oneRow (0 ∷ 1 ∷ 1 ∷ []) ⇒ (0 ∷ 1 ∷ 0 ∷ (image twoRows)))
-    ∷ (takeValue oneRow (1 ∷ 1 ∷ 0 ∷ []) ⇒ (0 ∷ 0 ∷ 0 ∷ (image oneRow)))
-    ∷ (takeValue oneRow (0 ∷ 0 ∷ 0 ∷ []) ⇒ (0 ∷ 0 ∷ 1 ∷ (image oneRow)))
-    ∷ (takeValue noRows (0 ∷ 0 ∷ 0 ∷ []) ⇒ (0 ∷ 0 ∷ 1 ∷ (image noRows)))
-    ∷ (takeValue threeRows (0 ∷ 0 ∷ 0 ∷ []) ⇒ (0 ∷ 0 ∷ 1 ∷ (image threeRows)))
-    ∷ (takeValue threeRows (1 ∷ 0 ∷ 1 ∷ []) ⇒ (0 ∷ 0 ∷ 0 ∷ (image threeRows)))
-    ∷ (takeValue oneRow (0 ∷ 0 ∷ []) ⇒ (4 ∷ 0 ∷ 0 ∷ (image oneRow)))
-    ∷ (takeValue oneRow (0 ∷ 0 ∷ 2 ∷ []) ⇒ (6 ∷ 0 ∷ 0 ∷ (image oneRow)))
-    ∷ (takeValue oneRow (2 ∷ 2 ∷ 2 ∷ []) ⇒ (6 ∷ 0 ∷ 0 ∷ (image oneRow)))
-    ∷ (takeValue leftOver (0 ∷ 0 ∷ 0 ∷ []) ⇒ (14 ∷ 0 ∷ 0 ∷ (image leftOver)))
-    ∷ (takeLent tooManyRows (0 ∷ 1 ∷ 1 ∷ []) ⇒ (14 ∷ 0 ∷ 0 ∷ (image tooManyRows)))
-    ∷ (takeLent noField (0 ∷ 1 ∷ 1 ∷ []) ⇒ (14 ∷ 0 ∷ 0 ∷ (image noField)))
-    ∷ (takeLent oversized (0 ∷ 1 ∷ 1 ∷ []) ⇒ (14 ∷ 0 ∷ 0 ∷ (image oversized)))
-    ∷ (takeLent zeroRow (0 ∷ 1 ∷ 1 ∷ []) ⇒ (14 ∷ 0 ∷ 0 ∷ (image zeroRow)))
-    ∷ (takeLent leftOver (0 ∷ 1 ∷ 1 ∷ []) ⇒ (14 ∷ 0 ∷ 0 ∷ (image leftOver)))
-    ∷ (takeLent oneRow (0 ∷ 1 ∷ []) ⇒ (4 ∷ 0 ∷ 0 ∷ (image oneRow)))
-    ∷ (takeLent oneRow (0 ∷ 1 ∷ 1 ∷ 0 ∷ []) ⇒ (4 ∷ 0 ∷ 0 ∷ (image oneRow)))
-    ∷ (takeLent oneRow (0 ∷ 2 ∷ 1 ∷ []) ⇒ (6 ∷ 0 ∷ 0 ∷ (image oneRow)))
-    ∷ (takeLent zeros (2 ∷ []) ⇒ (14 ∷ 0 ∷ 0 ∷ (image zeros)))
-    ∷ (takeLent oneRow (2 ∷ []) ⇒ (4 ∷ 0 ∷ 0 ∷ (image oneRow)))
-    ∷ (takeLent oneRow (0 ∷ 1 ∷ 1 ∷ []) ⇒ (0 ∷ 1 ∷ 0 ∷ (image twoRows)))
-    ∷ (takeLent oneRow (1 ∷ 1 ∷ 0 ∷ []) ⇒ (0 ∷ 0 ∷ 0 ∷ (image oneRow)))
-    ∷ (takeLent oneRow (0 ∷ 0 ∷ 0 ∷ []) ⇒ (0 ∷ 0 ∷ 1 ∷ (image oneRow)))
-    ∷ (takeLent noRows (0 ∷ 0 ∷ 0 ∷ []) ⇒ (0 ∷ 0 ∷ 1 ∷ (image noRows)))
-    ∷ (takeLent threeRows (0 ∷ 0 ∷ 0 ∷ []) ⇒ (0 ∷ 0 ∷ 1 ∷ (image threeRows)))
-    ∷ (takeLent threeRows (1 ∷ 0 ∷ 1 ∷ []) ⇒ (0 ∷ 0 ∷ 0 ∷ (image threeRows)))
-    ∷ (takeLent oneRow (0 ∷ 0 ∷ []) ⇒ (4 ∷ 0 ∷ 0 ∷ (image oneRow)))
-    ∷ (takeLent oneRow (0 ∷ 0 ∷ 2 ∷ []) ⇒ (6 ∷ 0 ∷ 0 ∷ (image oneRow)))
-    ∷ (takeLent oneRow (2 ∷ 2 ∷ 2 ∷ []) ⇒ (6 ∷ 0 ∷ 0 ∷ (image oneRow)))
-    ∷ (takeLent leftOver (0 ∷ 0 ∷ 0 ∷ []) ⇒ (14 ∷ 0 ∷ 0 ∷ (image leftOver)))
-    -- Close: the refusal number, the index, the dimension, the identifying vector
+    -- dimension, but not where they are refused: two of them, or before an entry of q, or on no receiver. 17 for a pack that differs in the
+    -- high byte alone, in the low one, or in both; before 4, 6 and idle, and after 14. The first pack and the last are as any other
+    ∷ (takeValue tooManyRows 258 (0 ∷ 1 ∷ 1 ∷ []) ⇒ (14 ∷ 0 ∷ 0 ∷ (image tooManyRows)))
+    ∷ (takeValue noField 258 (0 ∷ 1 ∷ 1 ∷ []) ⇒ (14 ∷ 0 ∷ 0 ∷ (image noField)))
+    ∷ (takeValue oversized 258 (0 ∷ 1 ∷ 1 ∷ []) ⇒ (14 ∷ 0 ∷ 0 ∷ (image oversized)))
+    ∷ (takeValue zeroRow 258 (0 ∷ 1 ∷ 1 ∷ []) ⇒ (14 ∷ 0 ∷ 0 ∷ (image zeroRow)))
+    ∷ (takeValue leftOver 258 (0 ∷ 1 ∷ 1 ∷ []) ⇒ (14 ∷ 0 ∷ 0 ∷ (image leftOver)))
+    ∷ (takeValue oneRow 258 (0 ∷ 1 ∷ []) ⇒ (4 ∷ 0 ∷ 0 ∷ (image oneRow)))
+    ∷ (takeValue oneRow 258 (0 ∷ 1 ∷ 1 ∷ 0 ∷ []) ⇒ (4 ∷ 0 ∷ 0 ∷ (image oneRow)))
+    ∷ (takeValue oneRow 258 (0 ∷ 2 ∷ 1 ∷ []) ⇒ (6 ∷ 0 ∷ 0 ∷ (image oneRow)))
+    ∷ (takeValue zeros 258 (2 ∷ []) ⇒ (14 ∷ 0 ∷ 0 ∷ (image zeros)))
+    ∷ (takeValue oneRow 258 (2 ∷ []) ⇒ (4 ∷ 0 ∷ 0 ∷ (image oneRow)))
+    ∷ (takeValue oneRow 258 (0 ∷ 1 ∷ 1 ∷ []) ⇒ (0 ∷ 1 ∷ 0 ∷ (image twoRows)))
+    ∷ (takeValue oneRow 258 (1 ∷ 1 ∷ 0 ∷ []) ⇒ (0 ∷ 0 ∷ 0 ∷ (image oneRow)))
+    ∷ (takeValue oneRow 258 (0 ∷ 0 ∷ 0 ∷ []) ⇒ (0 ∷ 0 ∷ 1 ∷ (image oneRow)))
+    ∷ (takeValue noRows 258 (0 ∷ 0 ∷ 0 ∷ []) ⇒ (0 ∷ 0 ∷ 1 ∷ (image noRows)))
+    ∷ (takeValue threeRows 258 (0 ∷ 0 ∷ 0 ∷ []) ⇒ (0 ∷ 0 ∷ 1 ∷ (image threeRows)))
+    ∷ (takeValue threeRows 258 (1 ∷ 0 ∷ 1 ∷ []) ⇒ (0 ∷ 0 ∷ 0 ∷ (image threeRows)))
+    ∷ (takeValue oneRow 258 (0 ∷ 0 ∷ []) ⇒ (4 ∷ 0 ∷ 0 ∷ (image oneRow)))
+    ∷ (takeValue oneRow 258 (0 ∷ 0 ∷ 2 ∷ []) ⇒ (6 ∷ 0 ∷ 0 ∷ (image oneRow)))
+    ∷ (takeValue oneRow 258 (2 ∷ 2 ∷ 2 ∷ []) ⇒ (6 ∷ 0 ∷ 0 ∷ (image oneRow)))
+    ∷ (takeValue leftOver 258 (0 ∷ 0 ∷ 0 ∷ []) ⇒ (14 ∷ 0 ∷ 0 ∷ (image leftOver)))
+    ∷ (takeValue oneRow 514 (0 ∷ 1 ∷ 1 ∷ []) ⇒ (17 ∷ 0 ∷ 0 ∷ (image oneRow)))
+    ∷ (takeValue oneRow 259 (0 ∷ 1 ∷ 1 ∷ []) ⇒ (17 ∷ 0 ∷ 0 ∷ (image oneRow)))
+    ∷ (takeValue oneRow 0 (1 ∷ 1 ∷ 0 ∷ []) ⇒ (17 ∷ 0 ∷ 0 ∷ (image oneRow)))
+    ∷ (takeValue leftOver 514 (0 ∷ 1 ∷ 1 ∷ []) ⇒ (14 ∷ 0 ∷ 0 ∷ (image leftOver)))
+    ∷ (takeValue oneRow 514 (0 ∷ 1 ∷ []) ⇒ (17 ∷ 0 ∷ 0 ∷ (image oneRow)))
+    ∷ (takeValue oneRow 514 (0 ∷ 2 ∷ 1 ∷ []) ⇒ (17 ∷ 0 ∷ 0 ∷ (image oneRow)))
+    ∷ (takeValue oneRow 514 (0 ∷ 0 ∷ 0 ∷ []) ⇒ (17 ∷ 0 ∷ 0 ∷ (image oneRow)))
+    ∷ (takeValue firstPack 0 (0 ∷ 1 ∷ 1 ∷ []) ⇒ (0 ∷ 1 ∷ 0 ∷ (image firstPlane)))
+    ∷ (takeValue firstPack 65535 (0 ∷ 1 ∷ 1 ∷ []) ⇒ (17 ∷ 0 ∷ 0 ∷ (image firstPack)))
+    ∷ (takeValue lastPack 65535 (0 ∷ 1 ∷ 1 ∷ []) ⇒ (0 ∷ 1 ∷ 0 ∷ (image lastPlane)))
+    ∷ (takeValue lastPack 255 (0 ∷ 1 ∷ 1 ∷ []) ⇒ (17 ∷ 0 ∷ 0 ∷ (image lastPack)))
+    ∷ (takeLent tooManyRows 258 (0 ∷ 1 ∷ 1 ∷ []) ⇒ (14 ∷ 0 ∷ 0 ∷ (image tooManyRows)))
+    ∷ (takeLent noField 258 (0 ∷ 1 ∷ 1 ∷ []) ⇒ (14 ∷ 0 ∷ 0 ∷ (image noField)))
+    ∷ (takeLent oversized 258 (0 ∷ 1 ∷ 1 ∷ []) ⇒ (14 ∷ 0 ∷ 0 ∷ (image oversized)))
+    ∷ (takeLent zeroRow 258 (0 ∷ 1 ∷ 1 ∷ []) ⇒ (14 ∷ 0 ∷ 0 ∷ (image zeroRow)))
+    ∷ (takeLent leftOver 258 (0 ∷ 1 ∷ 1 ∷ []) ⇒ (14 ∷ 0 ∷ 0 ∷ (image leftOver)))
+    ∷ (takeLent oneRow 258 (0 ∷ 1 ∷ []) ⇒ (4 ∷ 0 ∷ 0 ∷ (image oneRow)))
+    ∷ (takeLent oneRow 258 (0 ∷ 1 ∷ 1 ∷ 0 ∷ []) ⇒ (4 ∷ 0 ∷ 0 ∷ (image oneRow)))
+    ∷ (takeLent oneRow 258 (0 ∷ 2 ∷ 1 ∷ []) ⇒ (6 ∷ 0 ∷ 0 ∷ (image oneRow)))
+    ∷ (takeLent zeros 258 (2 ∷ []) ⇒ (14 ∷ 0 ∷ 0 ∷ (image zeros)))
+    ∷ (takeLent oneRow 258 (2 ∷ []) ⇒ (4 ∷ 0 ∷ 0 ∷ (image oneRow)))
+    ∷ (takeLent oneRow 258 (0 ∷ 1 ∷ 1 ∷ []) ⇒ (0 ∷ 1 ∷ 0 ∷ (image twoRows)))
+    ∷ (takeLent oneRow 258 (1 ∷ 1 ∷ 0 ∷ []) ⇒ (0 ∷ 0 ∷ 0 ∷ (image oneRow)))
+    ∷ (takeLent oneRow 258 (0 ∷ 0 ∷ 0 ∷ []) ⇒ (0 ∷ 0 ∷ 1 ∷ (image oneRow)))
+    ∷ (takeLent noRows 258 (0 ∷ 0 ∷ 0 ∷ []) ⇒ (0 ∷ 0 ∷ 1 ∷ (image noRows)))
+    ∷ (takeLent threeRows 258 (0 ∷ 0 ∷ 0 ∷ []) ⇒ (0 ∷ 0 ∷ 1 ∷ (image threeRows)))
+    ∷ (takeLent threeRows 258 (1 ∷ 0 ∷ 1 ∷ []) ⇒ (0 ∷ 0 ∷ 0 ∷ (image threeRows)))
+    ∷ (takeLent oneRow 258 (0 ∷ 0 ∷ []) ⇒ (4 ∷ 0 ∷ 0 ∷ (image oneRow)))
+    ∷ (takeLent oneRow 258 (0 ∷ 0 ∷ 2 ∷ []) ⇒ (6 ∷ 0 ∷ 0 ∷ (image oneRow)))
+    ∷ (takeLent oneRow 258 (2 ∷ 2 ∷ 2 ∷ []) ⇒ (6 ∷ 0 ∷ 0 ∷ (image oneRow)))
+    ∷ (takeLent leftOver 258 (0 ∷ 0 ∷ 0 ∷ []) ⇒ (14 ∷ 0 ∷ 0 ∷ (image leftOver)))
+    ∷ (takeLent oneRow 514 (0 ∷ 1 ∷ 1 ∷ []) ⇒ (17 ∷ 0 ∷ 0 ∷ (image oneRow)))
+    ∷ (takeLent oneRow 259 (0 ∷ 1 ∷ 1 ∷ []) ⇒ (17 ∷ 0 ∷ 0 ∷ (image oneRow)))
+    ∷ (takeLent oneRow 0 (1 ∷ 1 ∷ 0 ∷ []) ⇒ (17 ∷ 0 ∷ 0 ∷ (image oneRow)))
+    ∷ (takeLent leftOver 514 (0 ∷ 1 ∷ 1 ∷ []) ⇒ (14 ∷ 0 ∷ 0 ∷ (image leftOver)))
+    ∷ (takeLent oneRow 514 (0 ∷ 1 ∷ []) ⇒ (17 ∷ 0 ∷ 0 ∷ (image oneRow)))
+    ∷ (takeLent oneRow 514 (0 ∷ 2 ∷ 1 ∷ []) ⇒ (17 ∷ 0 ∷ 0 ∷ (image oneRow)))
+    ∷ (takeLent oneRow 514 (0 ∷ 0 ∷ 0 ∷ []) ⇒ (17 ∷ 0 ∷ 0 ∷ (image oneRow)))
+    ∷ (takeLent firstPack 0 (0 ∷ 1 ∷ 1 ∷ []) ⇒ (0 ∷ 1 ∷ 0 ∷ (image firstPlane)))
+    ∷ (takeLent firstPack 65535 (0 ∷ 1 ∷ 1 ∷ []) ⇒ (17 ∷ 0 ∷ 0 ∷ (image firstPack)))
+    ∷ (takeLent lastPack 65535 (0 ∷ 1 ∷ 1 ∷ []) ⇒ (0 ∷ 1 ∷ 0 ∷ (image lastPlane)))
+    ∷ (takeLent lastPack 255 (0 ∷ 1 ∷ 1 ∷ []) ⇒ (17 ∷ 0 ∷ 0 ∷ (image lastPack)))
+    -- Close: the refusal number, the index, the dimension, the identifying vector; whatever the pack
     ∷ (close tooManyRows 1 ⇒ (14 ∷ 0 ∷ 0 ∷ 0 ∷ []))
     ∷ (close zeroRow 1 ⇒ (14 ∷ 0 ∷ 0 ∷ 0 ∷ []))
     ∷ (close behindTheRow 1 ⇒ (14 ∷ 0 ∷ 0 ∷ 0 ∷ []))
@@ -367,6 +417,8 @@ refusals =
     ∷ (close threeRows 3 ⇒ (10 ∷ 0 ∷ 0 ∷ 0 ∷ []))
     ∷ (close twoRows 1 ⇒ (0 ∷ 3 ∷ 2 ∷ 6 ∷ []))
     ∷ (close twoRows 2 ⇒ (0 ∷ 3 ∷ 2 ∷ 6 ∷ []))
+    ∷ (close firstPlane 1 ⇒ (0 ∷ 3 ∷ 2 ∷ 6 ∷ []))
+    ∷ (close lastPlane 1 ⇒ (0 ∷ 3 ∷ 2 ∷ 6 ∷ []))
     ∷ (close middle 1 ⇒ (0 ∷ 2 ∷ 1 ∷ 2 ∷ []))
     ∷ (close middle 2 ⇒ (0 ∷ 4 ∷ 1 ∷ 2 ∷ []))
     -- List: 11 for what is no settings line: nothing, no line feed, a fourth number, a leading zero, three of them, a blank, bytes after it,

@@ -1,36 +1,16 @@
--- What is offered for one pack among others, and lists put together by turns; no part of the meaning.
---   fitting-own     == of what is offered only that for the receiver's own pack can fit
+-- Lists put together by turns; no part of the meaning.
 --   turns-swap      == by turns, the other way round
 --   turns-all       == what holds of both lists holds of the two together
 --   turns-among     == what is in the first is in the two together
 --   offers-foreign  == what is offered for one pack is offered for no other
 -- Assumes nothing.
-use mathlib.Core.Path.{_≡_, refl, ap, sym, _∙_}
-use mathlib.Core.Bool.{Bool, true, false, _&&_}
+use mathlib.Core.Path.{_≡_}
 use mathlib.Core.List.{List, [], _∷_}
 use Prim.Native.Nat.{ℕ}
-use lib.Dec.{eqb}
-use lib.ListN.{length}
-use Rattle.basics.specs.Choice.{pick}
-use Rattle.matrix.specs.Matrix.{entriesBelow}
 use Rattle.linear.specs.Span.{All, none, more}
-use Rattle.receiver.specs.Receiver.{Setup, Offer}
-use Rattle.promise_recovery.specs.Calls.{fits, fitting}
+use Rattle.receiver.specs.Receiver.{Offer}
 use Rattle.promise_recovery.specs.laws.Whole.{Among, first as here, later, offers}
-use Rattle.promise_packs.specs.Packs.{own, Turns, none as nothing, first, second}
-
-pub fitting-own : (s : Setup) (os : List Offer) → fitting s (own (s .pack) os) ≡ fitting s os
-unfolding fitting own
-fitting-own s [] = refl
-fitting-own s (o ∷ os) = cases (eqb (o .pack) (s .pack)) refl (fitting-own s os)
-  where
-    cases : (b : Bool) → eqb (o .pack) (s .pack) ≡ b → fitting s (own (s .pack) os) ≡ fitting s os
-        → fitting s (pick b (o ∷ own (s .pack) os) (own (s .pack) os)) ≡ pick (fits s o) (o .row ∷ fitting s os) (fitting s os)
-    cases true e same = ap (λ (x : List (List ℕ)). pick (fits s o) (o .row ∷ x) x) same
-    cases false e same =
-        same
-        ∙ sym
-        (ap (λ b. pick (b && (eqb (length (o .row)) (s .n) && entriesBelow (s .q) (o .row))) (o .row ∷ fitting s os) (fitting s os)) e)
+use Rattle.promise_packs.specs.Packs.{Turns, none as nothing, first, second}
 
 pub turns-swap : {A : Type 0} {xs ys zs : List A} → Turns xs ys zs → Turns ys xs zs
 turns-swap nothing = nothing
