@@ -50,7 +50,8 @@ extern "C" {
 #define PANDRWYG_LISTING 12    /* N exceeds 65,536 */
 #define PANDRWYG_ROW_COUNT 13  /* more than 64 rows */
 #define PANDRWYG_RECEIVER 14   /* the receiver is none that Start and Take can leave */
-#define PANDRWYG_MISMATCH 16   /* the receivers differ in q, n or k */
+#define PANDRWYG_MISMATCH 16   /* the receivers differ in q, n, k or pack */
+#define PANDRWYG_PACK 17       /* the row is offered for another pack */
 
 /* The bytes of Receive's answer: the index in eight, the dimension in one, the identifying vector in two, least byte first. */
 #define PANDRWYG_ANSWER_SIZE 11

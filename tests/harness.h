@@ -15,10 +15,10 @@ typedef struct {
     uint64_t vector;
 } harness_answer;
 
-/* A receiver, field by field. */
+/* A receiver, field by field. The shims take the low 16 bits of a pack, here and in the calls; no test has a larger. */
 typedef struct {
     uint8_t entries[256];
-    uint64_t q, n, k, dimension;
+    uint64_t q, n, k, dimension, pack;
 } harness_receiver;
 
 /*
@@ -47,11 +47,11 @@ harness_answer harness_reduce(uint64_t q, uint64_t n, uint64_t row_count, const 
 harness_answer harness_receive(uint64_t q, uint64_t n, uint64_t k, uint64_t numbering, uint64_t row_count,
                                const uint8_t *rows, size_t rows_length);
 
-harness_step harness_start(uint64_t q, uint64_t n, uint64_t k);
+harness_step harness_start(uint64_t q, uint64_t n, uint64_t k, uint64_t pack);
 
-/* Take by value, and Take on a lent receiver, which is then handed back. */
-harness_step harness_take(harness_receiver receiver, const uint8_t *row, size_t length);
-harness_step harness_take_lent(harness_receiver receiver, const uint8_t *row, size_t length);
+/* Take by value, and Take on a lent receiver, which is then handed back; the row is offered for the pack. */
+harness_step harness_take(harness_receiver receiver, uint64_t pack, const uint8_t *row, size_t length);
+harness_step harness_take_lent(harness_receiver receiver, uint64_t pack, const uint8_t *row, size_t length);
 
 harness_answer harness_close(harness_receiver receiver, uint64_t numbering);
 

@@ -1,7 +1,8 @@
 /*
  * Tests Start, Take by value and lent, and Close against the second implementation's receiver, which keeps the list of
- * accepted rows: random scripts of calls over every accepted setting, the round trip from Draw, document 01's figures,
- * refused starts, and receivers that no calls lead to. An argument N runs about the N-th part, for slow checkers.
+ * accepted rows: random scripts of calls over every accepted setting, with rows of other packs among them, the round
+ * trip from Draw, document 01's figures, refused starts, and receivers that no calls lead to. An argument N runs about
+ * the N-th part, for slow checkers.
  */
 #include "cases.h"
 #include "check.h"
@@ -12,10 +13,10 @@ enum { SCRIPTS = 40, CALLS = 60, TRIPS = 20, FORGERIES = 6, DAMAGES = 100, ROW_L
 /* ---- Both receivers ---- */
 
 /* A start in both; answers the library's receiver. */
-static harness_receiver compare_start(uint64_t q, uint64_t n, uint64_t k, second_receiver *model)
+static harness_receiver compare_start(uint64_t q, uint64_t n, uint64_t k, uint64_t pack, second_receiver *model)
 {
-    uint32_t refusal = second_start(q, n, k, model);
-    harness_step step = harness_start(q, n, k);
+    uint32_t refusal = second_start(q, n, k, pack, model);
+    harness_step step = harness_start(q, n, k, pack);
     harness_receiver expected = image_of(model);
     check(step.refusal == refusal && step.raised == 0 && step.idle == 0,
           "start of %" PRIu64 ",%" PRIu64 ",%" PRIu64 ": refusal %u instead of %u", q, n, k, step.refusal, refusal);
@@ -24,20 +25,20 @@ static harness_receiver compare_start(uint64_t q, uint64_t n, uint64_t k, second
     return step.receiver;
 }
 
-/* A row taken into both. The answers must agree, and every byte of the receivers; the row is only read. */
-static void compare_take(take_form form, harness_receiver *receiver, second_receiver *model,
+/* A row offered to both for a pack. The answers must agree, and every byte of the receivers; the row is only read. */
+static void compare_take(take_form form, harness_receiver *receiver, second_receiver *model, uint64_t pack,
                          const uint8_t *row, size_t length)
 {
     uint8_t kept[ROW_LIMIT];
     second_taken taken;
     memcpy(kept, row, length);
-    uint32_t refusal = second_take(model, row, length, &taken);
-    harness_step step = take(form, receiver, row, length);
+    uint32_t refusal = second_take(model, pack, row, length, &taken);
+    harness_step step = take_for(form, receiver, pack, row, length);
     harness_receiver expected = image_of(model);
     check(step.refusal == refusal && step.raised == taken.raised && step.idle == taken.idle,
-          SETTING_FORMAT ", row of %zu bytes %s: refusal %u, raised %u, idle %u instead of %u, %u, %u",
-          SETTING_VALUES(model), length, form_names[form], step.refusal, step.raised, step.idle, refusal,
-          taken.raised, taken.idle);
+          SETTING_FORMAT " of pack %" PRIu64 ", row of %zu bytes for %" PRIu64 " %s: refusal %u, raised %u, idle %u "
+          "instead of %u, %u, %u", SETTING_VALUES(model), model->pack, length, pack, form_names[form], step.refusal,
+          step.raised, step.idle, refusal, taken.raised, taken.idle);
     check(same_receiver(&step.receiver, &expected), SETTING_FORMAT ", %" PRIu64 " rows, the last %s: other receiver",
           SETTING_VALUES(model), model->r, form_names[form]);
     check(taken.raised == 1 || same_receiver(&step.receiver, receiver),
@@ -78,7 +79,7 @@ typedef struct {
 
 static void begin_script(const setting *s, script *one)
 {
-    one->receiver = compare_start(s->q, s->n, s->k, &one->model);
+    one->receiver = compare_start(s->q, s->n, s->k, random_pack(), &one->model);
     one->base_count = random_below(2) == 0 ? s->k : random_below(s->n + 1);
     random_entries(s->q, one->base, (size_t)(one->base_count * s->n));
 }
@@ -122,7 +123,7 @@ static void random_call(script *one)
     random_entries(q, row, ROW_LIMIT);
     accepted_row(one, row);
     size_t length = kind == 1 ? refused_row(q, n, row) : (size_t)n;
-    compare_take(random_form(), &one->receiver, &one->model, row, length);
+    compare_take(random_form(), &one->receiver, &one->model, offered_pack(one->model.pack), row, length);
 }
 
 static void scripts_group(uint64_t q)
@@ -147,7 +148,7 @@ static void round_trip(const setting *s, uint64_t numbering)
 {
     uint8_t matrix[MAX_LENGTH * MAX_LENGTH], factors[ROWS_LIMIT], row[MAX_LENGTH];
     uint64_t index = random_index(s->count), rank = 0;
-    harness_receiver receiver = harness_start(s->q, s->n, s->k).receiver;
+    harness_receiver receiver = harness_start(s->q, s->n, s->k, random_pack()).receiver;
     uint32_t refusal = pandrwyg_draw(s->q, s->n, s->k, numbering, index, matrix, (size_t)(s->k * s->n));
     check(refusal == ACCEPTED, SETTING_FORMAT ": draw refused %u", SETTING_VALUES(s), refusal);
     for (uint64_t r = 0; r < s->k + 4; r++) {
@@ -188,7 +189,7 @@ static void compare_figure(setting s, const char *rows, const char *answers, uin
     uint8_t entries[ROWS_LIMIT];
     size_t count = read_rows(rows, entries) / s.n;
     for (take_form form = BY_VALUE; form <= LENT; form++) {
-        harness_receiver receiver = harness_start(s.q, s.n, s.k).receiver;
+        harness_receiver receiver = harness_start(s.q, s.n, s.k, random_pack()).receiver;
         for (size_t row = 0; row < count; row++) {
             harness_step step = take(form, &receiver, entries + row * s.n, (size_t)s.n);
             check(step.refusal == ACCEPTED && step.raised == (answers[row] == '1') &&
@@ -233,7 +234,7 @@ static void polynomials_group(void)
 static void compare_unreachable(const harness_receiver *receiver, const uint8_t *row, size_t length)
 {
     for (take_form form = BY_VALUE; form <= LENT; form++) {
-        harness_step step = take(form, receiver, row, length);
+        harness_step step = take_for(form, receiver, offered_pack(receiver->pack), row, length);
         check(step.refusal == REFUSED_RECEIVER && step.raised == 0 && step.idle == 0 &&
               same_receiver(&step.receiver, receiver), SETTING_FORMAT " of dimension %" PRIu64 ", Take %s: refusal %u",
               SETTING_VALUES(receiver), receiver->dimension, form_names[form], step.refusal);
@@ -249,16 +250,17 @@ static void compare_reachable(const harness_receiver *receiver, const second_rec
     uint8_t row[ROW_LIMIT];
     random_entries(random_below(4) == 0 ? 1 : model->q, row, ROW_LIMIT);
     size_t length = random_below(4) == 0 ? refused_row(model->q, model->n, row) : (size_t)model->n;
+    uint64_t pack = offered_pack(model->pack);
     for (take_form form = BY_VALUE; form <= LENT; form++) {
         harness_receiver left = *receiver;
         second_receiver list = *model;
-        compare_take(form, &left, &list, row, length);
+        compare_take(form, &left, &list, pack, row, length);
     }
     for (uint64_t numbering = 0; numbering < 4; numbering++)
         compare_close(receiver, model, numbering);
 }
 
-/* Any receiver: refused 14 where no list of rows leads to it, whatever the row is; else as after such a list. */
+/* Any receiver: refused 14 where no list of rows leads to it, whatever is offered; else as after such a list. */
 static void compare_any(const harness_receiver *receiver)
 {
     static const uint64_t bounds[] = {1, 2, 2, 256};
@@ -275,15 +277,15 @@ static void compare_any(const harness_receiver *receiver)
                                                                                       : random_below(ROW_LIMIT + 1));
 }
 
-/* Every byte of a receiver, those of its four numbers too, at each of the 255 other values. */
+/* Every byte of a receiver, those of its numbers too, at each of the 255 other values; the pack may have any. */
 static void single_byte_group(uint64_t q, uint64_t n, uint64_t k, uint64_t dimension)
 {
     check_group_begin("every damaged byte, %" PRIu64 ",%" PRIu64 ",%" PRIu64 " of dimension %" PRIu64,
                       q, n, k, dimension);
-    harness_receiver receiver = receiver_of(q, n, k, dimension);
+    harness_receiver receiver = receiver_of(q, n, k, random_pack(), dimension);
     begin_any_group();
     compare_any(&receiver);
-    for (size_t place = 0; place < sizeof receiver; place++)
+    for (size_t place = 0; place < RECEIVER_BYTES; place++)
         for (unsigned other = 1; other < 256; other += (unsigned)thinning) {
             harness_receiver damaged = receiver;
             ((uint8_t *)&damaged)[place] ^= (uint8_t)other;
@@ -299,7 +301,7 @@ static void damaged_rows_group(void)
     for (size_t number = 0; number < setting_count; number += thinning)
         for (unsigned round = 0; round < DAMAGES; round++) {
             const setting *s = &settings[number];
-            harness_receiver receiver = receiver_of(s->q, s->n, s->k, 1 + random_below(s->n));
+            harness_receiver receiver = receiver_of(s->q, s->n, s->k, random_pack(), 1 + random_below(s->n));
             if (receiver.dimension > 0)
                 damage_rows(&receiver);
             compare_any(&receiver);
@@ -310,7 +312,7 @@ static void damaged_rows_group(void)
 /* Every filling of the first entries with numbers up to q, at every dimension up to n + 1: one for each space. */
 static void every_filling_group(uint64_t q, uint64_t n, uint64_t k, size_t filled)
 {
-    harness_receiver receiver = harness_start(q, n, k).receiver;
+    harness_receiver receiver = harness_start(q, n, k, random_pack()).receiver;
     uint64_t spaces = 0, count;
     check_group_begin("every filling of %zu entries, %" PRIu64 ",%" PRIu64 ",%" PRIu64, filled, q, n, k);
     begin_any_group();
@@ -348,7 +350,8 @@ static void forged_numbers_group(void)
     for (size_t number = 0; number < setting_count; number += thinning)
         for (unsigned round = 0; round < FORGERIES; round++) {
             const setting *s = &settings[number];
-            harness_receiver receiver = receiver_of(s->q, s->n, s->k, round == 0 ? 0 : random_below(s->n + 1));
+            uint64_t dimension = round == 0 ? 0 : random_below(s->n + 1);
+            harness_receiver receiver = receiver_of(s->q, s->n, s->k, random_pack(), dimension);
             for (size_t place = 0; place < COUNT_OF(forged); place++)
                 compare_forged(&receiver, forged[place]);
         }
@@ -363,8 +366,8 @@ static void forged_sizes_group(void)
     for (size_t number = 0; number < setting_count; number += thinning)
         for (size_t place = 0; place < COUNT_OF(wrong_sizes); place++) {
             const setting *s = &settings[number];
-            harness_receiver empty = harness_start(s->q, s->n, s->k).receiver, unit = empty;
-            harness_receiver any = receiver_of(s->q, s->n, s->k, random_below(s->n + 1));
+            harness_receiver empty = harness_start(s->q, s->n, s->k, random_pack()).receiver, unit = empty;
+            harness_receiver any = receiver_of(s->q, s->n, s->k, random_pack(), random_below(s->n + 1));
             unit.entries[0] = 1;
             unit.dimension = 1;
             empty.q = unit.q = any.q = wrong_sizes[place];
@@ -384,7 +387,7 @@ static void forged_dimensions_group(void)
         const uint64_t dimensions[] = {s->n + 1, 17, 255, 256, 256 + s->n, UINT64_C(1) << 32, UINT64_C(1) << 60,
                                        UINT64_C(1) << 63, UINT64_MAX};
         uint8_t row[MAX_LENGTH] = {1};
-        harness_receiver receiver = receiver_of(s->q, s->n, s->k, number % (s->n + 1));
+        harness_receiver receiver = receiver_of(s->q, s->n, s->k, random_pack(), number % (s->n + 1));
         for (size_t place = 0; place < COUNT_OF(dimensions); place++) {
             receiver.dimension = dimensions[place];
             compare_unreachable(&receiver, row, (size_t)s->n);
@@ -402,14 +405,14 @@ static void starts_group(void)
     for (size_t q = 0; q < COUNT_OF(forged); q++)
         for (size_t n = 0; n < COUNT_OF(forged); n++)
             for (size_t k = 0; k < COUNT_OF(forged); k++)
-                compare_start(forged[q], forged[n], forged[k], &model);
+                compare_start(forged[q], forged[n], forged[k], random_pack(), &model);
     check_group_end();
 }
 
 static void start_wrong_size(uint64_t q, uint64_t n, uint64_t k)
 {
     static const harness_receiver zeros;
-    harness_step step = harness_start(q, n, k);
+    harness_step step = harness_start(q, n, k, random_pack());
     check(step.refusal == REFUSED_FIELD && same_receiver(&step.receiver, &zeros), SETTING_FORMAT ": refusal %u", q, n,
           k, step.refusal);
 }
@@ -431,7 +434,7 @@ static const struct {
     {2, 16, UINT64_MAX, REFUSED_SHAPE}, {2, 16, 7, REFUSED_COUNT}, {7, 16, 8, REFUSED_COUNT},
 };
 
-/* Take and Close on what a refused start gives, all zeros: 14, before any other refusal. */
+/* Take and Close on what a refused start gives for any pack, all zeros: 14, before any other refusal. */
 static void refused_starts_group(void)
 {
     static const uint64_t numbers[] = {0, 1, 2, 3, 258, UINT64_MAX};
@@ -439,7 +442,8 @@ static void refused_starts_group(void)
     uint8_t row[ROW_LIMIT] = {0};
     check_group_begin("refused starts");
     for (size_t place = 0; place < COUNT_OF(refused_starts); place++) {
-        harness_step step = harness_start(refused_starts[place].q, refused_starts[place].n, refused_starts[place].k);
+        harness_step step = harness_start(refused_starts[place].q, refused_starts[place].n, refused_starts[place].k,
+                                          other_pack(0));
         check(step.refusal == refused_starts[place].refusal && step.raised == 0 && step.idle == 0 &&
               same_receiver(&step.receiver, &zeros), SETTING_FORMAT ": refusal %u",
               SETTING_VALUES(&refused_starts[place]), step.refusal);

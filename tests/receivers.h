@@ -1,6 +1,6 @@
 /*
  * What the tests of the receiver's calls share: receivers as the library and as the second implementation have them,
- * Take in either form, rows, receivers of a given dimension, and damage.
+ * pack numbers, Take in either form, rows, receivers of a given dimension, and damage.
  */
 #ifndef RECEIVERS_H
 #define RECEIVERS_H
@@ -17,7 +17,7 @@ static inline bool same_receiver(const harness_receiver *first, const harness_re
 /* The receiver that the library must have where the second has this one. */
 static inline harness_receiver image_of(const second_receiver *model)
 {
-    harness_receiver image = {{0}, model->q, model->n, model->k, 0};
+    harness_receiver image = {{0}, model->q, model->n, model->k, 0, model->pack};
     if (model->n > 0)
         image.dimension = second_entries(model, image.entries);
     return image;
@@ -26,7 +26,36 @@ static inline harness_receiver image_of(const second_receiver *model)
 /* The second's receiver in the place of the library's; refused 14 where no list of rows leads to it. */
 static inline uint32_t revive(const harness_receiver *receiver, second_receiver *model)
 {
-    return second_revive(receiver->q, receiver->n, receiver->k, receiver->dimension, receiver->entries, model);
+    return second_revive(receiver->q, receiver->n, receiver->k, receiver->pack, receiver->dimension, receiver->entries,
+                         model);
+}
+
+/* ---- Pack numbers ---- */
+
+enum { PACK_LIMIT = 65536 };
+
+/* Any pack number, or one near which a narrower or a signed number ends. */
+static inline uint64_t random_pack(void)
+{
+    static const uint64_t ends[] = {0, 1, 127, 128, 255, 256, 257, 32767, 32768, 65280, 65534, 65535};
+    return random_below(2) == 0 ? ends[random_below(COUNT_OF(ends))] : random_below(PACK_LIMIT);
+}
+
+/* Another pack number: one bit or one byte alone differs, or any part. */
+static inline uint64_t other_pack(uint64_t pack)
+{
+    switch (random_below(4)) {
+    case 0: return pack ^ UINT64_C(1) << random_below(16);
+    case 1: return pack ^ (1 + random_below(255));
+    case 2: return pack ^ (1 + random_below(255)) << 8;
+    default: return pack ^ (1 + random_below(PACK_LIMIT - 1));
+    }
+}
+
+/* The pack that a row is offered for: mostly the receiver's. */
+static inline uint64_t offered_pack(uint64_t pack)
+{
+    return random_below(8) == 0 ? other_pack(pack) : pack;
 }
 
 /* ---- Take in either form ---- */
@@ -40,9 +69,17 @@ static inline take_form random_form(void)
     return random_below(2) == 0 ? BY_VALUE : LENT;
 }
 
+/* A row offered for a pack. */
+static inline harness_step take_for(take_form form, const harness_receiver *receiver, uint64_t pack, const uint8_t *row,
+                                    size_t length)
+{
+    return form == LENT ? harness_take_lent(*receiver, pack, row, length) : harness_take(*receiver, pack, row, length);
+}
+
+/* A row offered for the receiver's own pack. */
 static inline harness_step take(take_form form, const harness_receiver *receiver, const uint8_t *row, size_t length)
 {
-    return form == LENT ? harness_take_lent(*receiver, row, length) : harness_take(*receiver, row, length);
+    return take_for(form, receiver, receiver->pack, row, length);
 }
 
 /* ---- Rows ---- */
@@ -80,13 +117,13 @@ static inline size_t refused_row(uint64_t q, uint64_t n, uint8_t *row)
 }
 
 /* A receiver of the given dimension, after random rows; as many as surely are enough, unless Take is at fault. */
-static inline harness_receiver receiver_of(uint64_t q, uint64_t n, uint64_t k, uint64_t dimension)
+static inline harness_receiver receiver_of(uint64_t q, uint64_t n, uint64_t k, uint64_t pack, uint64_t dimension)
 {
-    harness_receiver receiver = harness_start(q, n, k).receiver;
+    harness_receiver receiver = harness_start(q, n, k, pack).receiver;
     uint8_t row[MAX_LENGTH];
     for (unsigned rows = 0; rows < 500 && receiver.dimension < dimension; rows++) {
         random_entries(q, row, (size_t)n);
-        receiver = harness_take(receiver, row, (size_t)n).receiver;
+        receiver = harness_take(receiver, pack, row, (size_t)n).receiver;
     }
     check(receiver.dimension == dimension, "dimension %" PRIu64 " not reached", dimension);
     return receiver;
@@ -102,7 +139,8 @@ static inline void script_answers_group(void)
 {
     check_group_begin("answers that the scripts met");
     check(raised_rows > 0 && held_rows > 0 && idle_rows > 0, "rows raised, held or idle");
-    check(take_refusals[REFUSED_LENGTH] > 0 && take_refusals[REFUSED_ENTRY] > 0, "rows refused 4 or 6");
+    check(take_refusals[REFUSED_PACK] > 0 && take_refusals[REFUSED_LENGTH] > 0 && take_refusals[REFUSED_ENTRY] > 0,
+          "rows refused 17, 4 or 6");
     check(close_refusals[ACCEPTED] > 0 && close_refusals[REFUSED_NUMBERING] > 0, "done or refused 10");
     check(close_refusals[REFUSED_TOO_FEW] > 0 && close_refusals[REFUSED_TOO_MANY] > 0, "refused 8 or 9");
     check_group_end();
@@ -126,6 +164,9 @@ static inline void end_any_group(void)
 }
 
 /* ---- Damage ---- */
+
+/* The bytes of a receiver that may be damaged; of a pack these are the two lowest. */
+enum { RECEIVER_BYTES = offsetof(harness_receiver, pack) + 2 };
 
 /* Changes the rows of a receiver that has some: mostly the same span, told by other rows. */
 static inline void damage_rows(harness_receiver *receiver)

@@ -18,7 +18,8 @@ enum {
     REFUSED_LISTING = 12,   /* N exceeds 65,536 */
     REFUSED_ROW_COUNT = 13, /* there are more than 64 rows */
     REFUSED_RECEIVER = 14,  /* the receiver is none that Start and Take can leave */
-    REFUSED_MISMATCH = 16,  /* the receivers differ in q, n or k */
+    REFUSED_MISMATCH = 16,  /* the receivers differ in q, n, k or pack */
+    REFUSED_PACK = 17,      /* the row is offered for another pack */
     REFUSAL_LIMIT
 };
 

@@ -71,16 +71,16 @@ uint32_t second_receive(uint64_t q, uint64_t n, uint64_t k, uint64_t numbering, 
                         const uint8_t *rows, size_t rows_length, uint64_t *index, second_told *told);
 
 /*
- * The second implementation's receiver: the rows that it accepted, r of them. All zeros after a refused start, and in
- * the place of a receiver that no list of rows leads to.
+ * The second implementation's receiver: its pack, below 65,536, and the rows that it accepted, r of them. All zeros
+ * after a refused start, and in the place of a receiver that no list of rows leads to.
  */
 typedef struct {
-    uint64_t q, n, k, r;
+    uint64_t q, n, k, pack, r;
     uint8_t rows[MAX_ROWS * MAX_LENGTH];
 } second_receiver;
 
 /* Start: a receiver of no rows. Refuses 1, 2, 3. */
-uint32_t second_start(uint64_t q, uint64_t n, uint64_t k, second_receiver *receiver);
+uint32_t second_start(uint64_t q, uint64_t n, uint64_t k, uint64_t pack, second_receiver *receiver);
 
 /* Writes the reduced rows of the list, then zeros, 256 bytes in all, and answers the dimension. */
 uint64_t second_entries(const second_receiver *receiver, uint8_t *entries);
@@ -90,14 +90,14 @@ typedef struct {
     uint32_t raised, idle;
 } second_taken;
 
-/* Take, of at most 64 accepted rows. Refuses 4, 6. */
-uint32_t second_take(second_receiver *receiver, const uint8_t *row, size_t length, second_taken *taken);
+/* Take, of at most 64 accepted rows; the row is offered for the pack. Refuses 17, 4, 6. */
+uint32_t second_take(second_receiver *receiver, uint64_t pack, const uint8_t *row, size_t length, second_taken *taken);
 
 /* Close: the index of the list's span. Refuses 10, 8, 9. */
 uint32_t second_close(const second_receiver *receiver, uint64_t numbering, uint64_t *index, second_told *told);
 
-/* Makes a receiver out of its dimension and its 256 entries. Refuses 14 where no list of rows leads to them. */
-uint32_t second_revive(uint64_t q, uint64_t n, uint64_t k, uint64_t dimension, const uint8_t *entries,
+/* Makes a receiver of the pack out of a dimension and 256 entries. Refuses 14 where no list of rows leads to them. */
+uint32_t second_revive(uint64_t q, uint64_t n, uint64_t k, uint64_t pack, uint64_t dimension, const uint8_t *entries,
                        second_receiver *receiver);
 
 /* What Pool leaves beside the matrices: a receiver of the joint space, and both dimensions; all zeros if refused. */

@@ -113,7 +113,7 @@ static uint32_t pool_refusal(const second_receiver *first, const second_receiver
 {
     if (first->q == 0 || second->q == 0)
         return REFUSED_RECEIVER;
-    if (first->q != second->q || first->n != second->n || first->k != second->k)
+    if (first->q != second->q || first->n != second->n || first->k != second->k || first->pack != second->pack)
         return REFUSED_MISMATCH;
     if (joint_length != first->n * first->n || common_length != first->n * first->n)
         return REFUSED_LENGTH;
@@ -134,7 +134,7 @@ uint32_t second_pool(const second_receiver *first, const second_receiver *second
     second_space shared = few ? second_common_tried(&one, &other) : second_common_solved(&one, &other);
     memcpy(joint, smallest.rows, joint_length);
     memcpy(common, shared.rows, common_length);
-    second_start(q, n, first->k, &pooled->receiver);
+    second_start(q, n, first->k, first->pack, &pooled->receiver);
     memcpy(pooled->receiver.rows, smallest.rows, sizeof smallest.rows);
     pooled->receiver.r = smallest.dimension;
     pooled->joint_dimension = smallest.dimension;

@@ -83,11 +83,11 @@ turns-recovered : (s : Setup) → setupRefusal s ≡ 0 → (t : ℕ) → isNumbe
     → (os : List Offer) → Turns (offers (s .pack) (rowsOf (s .n) (s .k) (D .leaves i b))) foreign os
     → (cs : List Call) → offered cs ≡ os
     → closeOf (after (begun s) cs) t ≡ Done (indexIn t i) (spaceOf (s .n) (s .k) (D .leaves i b))
-turns-recovered s settings t known i h b l foreign none os turns cs given =
+turns-recovered s settings t known i h b l foreign apart os turns cs given =
     let rows = rowsOf (s .n) (s .k) ((drawing (s .q) (s .n) (s .k) t) .leaves i b) in
     drawn-rows-recovered (s .q) (s .n) (s .k) t settings known i h b l (s .pack) cs
     (subst (All (λ o. Among (o .row) rows ⊎ ((o .pack ≡ s .pack) × Row (s .q) (s .n) (o .row) → ⊥))) (sym given)
-    (turns-all turns (all-offers (s .pack) (all-map (λ v a. inl a) (each-among rows))) (all-map (λ o p. inr (λ x. p (x .0))) none)))
+    (turns-all turns (all-offers (s .pack) (all-map (λ v a. inl a) (each-among rows))) (all-map (λ o p. inr (λ x. p (x .0))) apart)))
     (subst (λ os. All (λ row. Among (offer (s .pack) row) os) rows) (sym given)
     (all-map (λ v a. turns-among turns (among-offers (s .pack) a)) (each-among rows)))
 
