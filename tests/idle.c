@@ -1,10 +1,10 @@
 /*
  * Tests what Take answers for rows of zeros, by value and lent, by what the library answers alone. Such a row is idle
  * and leaves every byte of the receiver, wherever it stands among other rows, on receivers of every dimension, and
- * where it comes out of a linear combination. No other row is idle: not one of a wrong length, or with an entry of q or
- * more, or on a receiver that no Start and Take leave; and a nonzero row of the span is held and leaves every byte too.
- * tests/receiver.c has the answers themselves, from the second implementation. An argument N runs about the N-th part,
- * for slow checkers.
+ * where it comes out of a linear combination. No other row is idle: not one of another pack, or of a wrong length, or
+ * with an entry of q or more, or on a receiver that no Start and Take leave; and a nonzero row of the span is held and
+ * leaves every byte too. tests/receiver.c has the answers themselves, from the second implementation. An argument N
+ * runs about the N-th part, for slow checkers.
  */
 #include "cases.h"
 #include "check.h"
@@ -83,28 +83,36 @@ static uint64_t random_base(const setting *s, uint8_t *base)
 #define RECEIVER_FORMAT SETTING_FORMAT " of dimension %" PRIu64
 #define RECEIVER_VALUES(r) SETTING_VALUES(r), (r)->dimension
 
-/* Takes a row in both forms, which must agree in every field; the row is only read. */
-static harness_step take_both(const harness_receiver *receiver, const uint8_t *row, size_t length)
+/* Offers a row for a pack in both forms, which must agree in every field; the row is only read. */
+static harness_step take_both(const harness_receiver *receiver, uint64_t pack, const uint8_t *row, size_t length)
 {
     uint8_t kept[ROW_ROOM];
     memcpy(kept, row, length);
-    harness_step by_value = take(BY_VALUE, receiver, row, length), on_lent = take(LENT, receiver, row, length);
+    harness_step by_value = take_for(BY_VALUE, receiver, pack, row, length);
+    harness_step on_lent = take_for(LENT, receiver, pack, row, length);
     check(same_step(&by_value, &on_lent), RECEIVER_FORMAT ": %zu bytes, other answer when lent",
           RECEIVER_VALUES(receiver), length);
     check(memcmp(kept, row, length) == 0, "the row was changed");
     return by_value;
 }
 
-/* A row with this answer, which must leave every byte of the receiver. */
-static void compare_untouched(const harness_receiver *receiver, const uint8_t *row, size_t length,
-                              take_answer expected)
+/* A row of a pack with this answer, which must leave every byte of the receiver. */
+static void compare_untouched_for(const harness_receiver *receiver, uint64_t pack, const uint8_t *row, size_t length,
+                                  take_answer expected)
 {
-    harness_step step = take_both(receiver, row, length);
+    harness_step step = take_both(receiver, pack, row, length);
     check(answers(&step, expected),
           RECEIVER_FORMAT ": %zu bytes give %u, raised %u, idle %u instead of %u, %u, %u", RECEIVER_VALUES(receiver),
           length, step.refusal, step.raised, step.idle, expected.refusal, expected.raised, expected.idle);
     check(same_receiver(&step.receiver, receiver), RECEIVER_FORMAT ": %zu bytes change the receiver",
           RECEIVER_VALUES(receiver), length);
+}
+
+/* The same of a row of the receiver's own pack. */
+static void compare_untouched(const harness_receiver *receiver, const uint8_t *row, size_t length,
+                              take_answer expected)
+{
+    compare_untouched_for(receiver, receiver->pack, row, length, expected);
 }
 
 /* A row of zeros taken in either form. Answers the receiver that Take hands back, which must be the one given. */
@@ -124,7 +132,7 @@ static harness_receiver take_zeros(const setting *s, const harness_receiver *rec
 /* A nonzero row: raised, and the dimension grows by 1, or held. Answers whether it is raised. */
 static bool compare_nonzero(const harness_receiver *receiver, const uint8_t *row)
 {
-    harness_step step = take_both(receiver, row, (size_t)receiver->n);
+    harness_step step = take_both(receiver, receiver->pack, row, (size_t)receiver->n);
     bool grown = step.receiver.dimension == receiver->dimension + 1;
     check(answers(&step, (take_answer){ACCEPTED, grown, 0}),
           RECEIVER_FORMAT ": a nonzero row gives %u, raised %u, idle %u", RECEIVER_VALUES(receiver), step.refusal,
@@ -136,8 +144,9 @@ static bool compare_nonzero(const harness_receiver *receiver, const uint8_t *row
 
 /* ---- Zeros among the rows of a script ---- */
 
-/* Rows for Take with their lengths; some of them are refused. */
+/* Rows for Take with their packs and lengths, and the receiver's pack; some of them are refused. */
 typedef struct {
+    uint64_t pack, packs[SCRIPT_ROWS];
     size_t count, lengths[SCRIPT_ROWS];
     uint8_t rows[SCRIPT_ROWS][ROW_ROOM];
 } script;
@@ -147,6 +156,7 @@ static void random_row(const setting *s, uint64_t base_count, const uint8_t *bas
 {
     size_t place = one->count++, earlier = (size_t)random_below(place + 1);
     uint8_t *row = one->rows[place];
+    one->packs[place] = offered_pack(one->pack);
     one->lengths[place] = (size_t)s->n;
     random_entries(s->q, row, ROW_ROOM);
     switch (random_below(8)) {
@@ -154,6 +164,7 @@ static void random_row(const setting *s, uint64_t base_count, const uint8_t *bas
         break;
     case 1:
         memmove(row, one->rows[earlier], ROW_ROOM);
+        one->packs[place] = one->packs[earlier];
         one->lengths[place] = one->lengths[earlier];
         break;
     case 2:
@@ -189,12 +200,13 @@ static void compare_closes(const harness_receiver *without, const harness_receiv
 /* Runs a script without and with zeros put in, surely before its first row and after its last. */
 static void run_script(const setting *s, const script *one)
 {
-    harness_receiver without = harness_start(s->q, s->n, s->k).receiver, with = take_zeros(s, &without);
+    harness_receiver without = harness_start(s->q, s->n, s->k, one->pack).receiver, with = take_zeros(s, &without);
     for (size_t place = 0; place < one->count; place++) {
         for (uint64_t zeros = random_below(4); zeros > 0; zeros--)
             with = take_zeros(s, &with);
-        harness_step first = take(random_form(), &without, one->rows[place], one->lengths[place]);
-        harness_step second = take(random_form(), &with, one->rows[place], one->lengths[place]);
+        uint64_t pack = one->packs[place];
+        harness_step first = take_for(random_form(), &without, pack, one->rows[place], one->lengths[place]);
+        harness_step second = take_for(random_form(), &with, pack, one->rows[place], one->lengths[place]);
         check(same_step(&first, &second), SETTING_FORMAT ": row %zu gives %u, raised %u, idle %u instead of %u, %u, %u",
               SETTING_VALUES(s), place, second.refusal, second.raised, second.idle, first.refusal, first.raised,
               first.idle);
@@ -213,6 +225,7 @@ static void zeros_among_scripts(const setting *s)
     script one;
     for (unsigned round = 0; round < SCRIPTS; round++) {
         uint64_t base_count = random_base(s, base);
+        one.pack = random_pack();
         one.count = 0;
         for (uint64_t rows = random_below(SCRIPT_ROWS + 1); rows > 0; rows--)
             random_row(s, base_count, base, &one);
@@ -222,15 +235,16 @@ static void zeros_among_scripts(const setting *s)
 
 /* ---- Zeros of every length, on receivers of every dimension ---- */
 
-/* n zeros are idle, on the empty receiver, on the full one and between; fewer or more are refused. */
+/* n zeros are idle, on the empty receiver, on the full one and between; fewer or more, or another pack's, are refused. */
 static void zeros_at_every_dimension(const setting *s)
 {
     uint8_t row[ROW_ROOM];
     for (uint64_t dimension = 0; dimension <= s->n; dimension++) {
-        harness_receiver receiver = receiver_of(s->q, s->n, s->k, dimension);
+        harness_receiver receiver = receiver_of(s->q, s->n, s->k, random_pack(), dimension);
         for (size_t length = 0; length <= s->n + 2; length++) {
             fill_zeros(row, length);
             compare_untouched(&receiver, row, length, length == s->n ? idle : refused(REFUSED_LENGTH));
+            compare_untouched_for(&receiver, other_pack(receiver.pack), row, length, refused(REFUSED_PACK));
         }
     }
 }
@@ -255,7 +269,7 @@ static void single_entries(const setting *s)
 {
     const uint64_t dimensions[] = {0, random_below(s->n + 1), s->n};
     for (size_t number = 0; number < COUNT_OF(dimensions); number++) {
-        harness_receiver receiver = receiver_of(s->q, s->n, s->k, dimensions[number]);
+        harness_receiver receiver = receiver_of(s->q, s->n, s->k, random_pack(), dimensions[number]);
         for (uint64_t place = 0; place < s->n; place++)
             for (unsigned value = 1; value < 256; value++)
                 compare_single_entry(&receiver, place, value);
@@ -264,13 +278,13 @@ static void single_entries(const setting *s)
 
 /* ---- Zeros on receivers that no Start and Take leave ---- */
 
-/* Zeros of every length are refused 14. */
+/* Zeros of every length, for whatever pack, are refused 14. */
 static void compare_unreachable(const harness_receiver *receiver)
 {
     uint8_t row[ROW_ROOM];
     for (size_t length = 0; length <= ROW_ROOM; length++) {
         fill_zeros(row, length);
-        compare_untouched(receiver, row, length, refused(REFUSED_RECEIVER));
+        compare_untouched_for(receiver, offered_pack(receiver->pack), row, length, refused(REFUSED_RECEIVER));
     }
 }
 
@@ -317,7 +331,7 @@ static void unreachable_receivers(const setting *s)
     const uint64_t dimensions[] = {0, random_below(s->n + 1), s->n};
     compare_unreachable(&zeros);
     for (size_t number = 0; number < COUNT_OF(dimensions); number++) {
-        harness_receiver receiver = receiver_of(s->q, s->n, s->k, dimensions[number]);
+        harness_receiver receiver = receiver_of(s->q, s->n, s->k, random_pack(), dimensions[number]);
         forge_numbers(&receiver);
         forge_rows(&receiver);
     }
@@ -330,7 +344,7 @@ static harness_receiver take_dependent(const setting *s, uint64_t count, uint8_t
 {
     uint8_t base[MAX_LENGTH * MAX_LENGTH];
     uint64_t base_count = random_base(s, base);
-    harness_receiver receiver = harness_start(s->q, s->n, s->k).receiver;
+    harness_receiver receiver = harness_start(s->q, s->n, s->k, random_pack()).receiver;
     for (uint64_t row = 0; row < count; row++) {
         random_mixture(s->q, s->n, base_count, base, rows + row * s->n);
         receiver = take(random_form(), &receiver, rows + row * s->n, (size_t)s->n).receiver;
@@ -415,7 +429,7 @@ static void drawn_trip(const setting *s, uint64_t numbering)
 {
     uint8_t matrix[MAX_LENGTH * MAX_LENGTH], sent[ROWS_LIMIT];
     uint64_t index = random_index(s->count), mixed = random_below(MIXED + 1), dimension = 0;
-    harness_receiver receiver = harness_start(s->q, s->n, s->k).receiver;
+    harness_receiver receiver = harness_start(s->q, s->n, s->k, random_pack()).receiver;
     uint32_t refusal = pandrwyg_draw(s->q, s->n, s->k, numbering, index, matrix, width_of(s));
     check(refusal == ACCEPTED, SETTING_FORMAT ": draw refused %u", SETTING_VALUES(s), refusal);
     take_zero_mixture(s, s->k, matrix, &receiver);
@@ -460,7 +474,7 @@ static void compare_held(const harness_receiver *receiver, uint64_t at, uint8_t 
 static void own_combinations(const setting *s)
 {
     for (uint64_t dimension = 0; dimension <= s->n; dimension++) {
-        harness_receiver receiver = receiver_of(s->q, s->n, s->k, dimension);
+        harness_receiver receiver = receiver_of(s->q, s->n, s->k, random_pack(), dimension);
         take_zero_mixture(s, dimension, receiver.entries, &receiver);
         for (uint64_t at = 0; at < dimension; at++)
             for (uint8_t factor = 1; factor < s->q; factor++)
@@ -474,7 +488,7 @@ static void own_combinations(const setting *s)
 static void every_row(const setting *s)
 {
     for (uint64_t dimension = 0; dimension <= s->n && power(s->q, s->n) <= EVERY_ROW; dimension++) {
-        harness_receiver receiver = receiver_of(s->q, s->n, s->k, dimension);
+        harness_receiver receiver = receiver_of(s->q, s->n, s->k, random_pack(), dimension);
         uint8_t row[ROW_ROOM];
         uint64_t raised = 0;
         fill_zeros(row, (size_t)s->n);

@@ -4,7 +4,7 @@
 -- the refused."
 --   repacked r pack == the receiver r with this pack number in it
 --   Turns xs ys zs  == zs is xs and ys, put together by turns in any way, each in its own sequence
---   Rack s os cs    == a receiver with the setup s, to which the calls cs offer os, the rows of several packs: it accepts those that fit, and
+--   InRack s os cs  == a receiver with the setup s, to which the calls cs offer os, the rows of several packs: it accepts those that fit, and
 --                      so are offered for its own pack, and no others; and where these are Mixed from a drawn matrix, closing answers as
 --                      demand 3 says
 -- Assumes nothing.
@@ -28,7 +28,7 @@ pub data Turns {A : Type 0} : List A → List A → List A → Type 0 where
   first : {x : A} {xs ys zs : List A} → Turns xs ys zs → Turns (x ∷ xs) ys (x ∷ zs)
   second : {y : A} {xs ys zs : List A} → Turns xs ys zs → Turns xs (y ∷ ys) (y ∷ zs)
 
-pub record Rack (s : Setup) (os : List Offer) (cs : List Call) : Type 0 where
+pub record InRack (s : Setup) (os : List Offer) (cs : List Call) : Type 0 where
   pub accepts : accepted (begun s) cs ≡ fitting s os
   pub recovers : (t : ℕ) → isNumbering t ≡ true → let D = drawing (s .q) (s .n) (s .k) t in
       (i : ℕ) → i < D .count → (b : List ℕ) → Buffer (s .n) (s .k) b

@@ -1,6 +1,6 @@
 -- Order 8: the theorems.
---   rack            == two receivers with different packs, each with settings of its own, and one list of offers given to both: each is a
---                      Rack, and what one accepts the other refuses with 17
+--   rack            == two receivers with different packs, each with settings of its own, and one list of offers given to both: each is
+--                      InRack, and what one accepts the other refuses with 17
 --   both-recovered  == so the rows of two drawn matrices, offered for the two packs by turns in any way, give both indexes
 --   order-8         == the order in one flat statement, under its words
 -- Assumes nothing.
@@ -24,20 +24,20 @@ use Rattle.receiver.specs.laws.TakeAccepted.{take-accepted, take-long, take-lar
 use Rattle.receiver.specs.declared.Receiver.{Receiver}
 use Rattle.receiver.specs.declared.Taken.{Taken}
 use Rattle.receiver.specs.declared.TakeAnswer.the-variants.{Refused}
-use Rattle.promise_recovery.specs.Calls.{Call, begun, after, accepted, Reachable, offered, fitting}
+use Rattle.promise_recovery.specs.Calls.{Call, begun, after, accepted, Reachable, offers, offered, fitting}
 use Rattle.promise_recovery.specs.Demand.{Buffer, Recovery}
 use Rattle.promise_recovery.specs.Theorem.{demand-3}
 use Rattle.promise_recovery.specs.laws.After.{after-pack, accepted-fits}
 use Rattle.promise_recovery.specs.laws.Reachable.{reachable-size, after-reachable, reachable-exactly-well-formed, formed}
-use Rattle.promise_recovery.specs.laws.Whole.{Among, offers, all-offers, among-offers, each-among, drawn-rows-recovered}
+use Rattle.promise_recovery.specs.laws.Whole.{Among, all-offers, among-offers, each-among, drawn-rows-recovered}
 use Rattle.promise_idle.specs.Idle.{TakenBy}
-use Rattle.promise_packs.specs.Packs.{repacked, Turns, Rack}
-use Rattle.promise_packs.specs.laws.Offers.{turns-swap, turns-all, turns-among, offers-foreign}
+use Rattle.promise_packs.specs.Packs.{repacked, Turns, InRack}
+use Rattle.promise_packs.specs.laws.Turns.{turns-swap, turns-all, turns-among, offers-foreign}
 use Rattle.promise_packs.specs.laws.Refuses.{number-of, refused-leaves, refused-by, forged-exactly, foreign-exactly}
 
 -- one of the two receivers
-racked : (s : Setup) → setupRefusal s ≡ 0 → (os : List Offer) (cs : List Call) → offered cs ≡ os → Rack s os cs
-racked s settings os cs given =
+in-rack : (s : Setup) → setupRefusal s ≡ 0 → (os : List Offer) (cs : List Call) → offered cs ≡ os → InRack s os cs
+in-rack s settings os cs given =
     record {
       accepts = accepts;
       recovers = λ t known i h b l mixed. demand-3 s t settings known .recovery i h b l cs (subst (All _) (sym accepts) mixed);
@@ -63,13 +63,13 @@ refuses-other s other settings others apart cs ds o by beside z =
 
 pub rack : (s other : Setup) → setupRefusal s ≡ 0 → setupRefusal other ≡ 0 → (s .pack ≡ other .pack → ⊥)
     → (os : List Offer) (cs ds : List Call) → offered cs ≡ os → offered ds ≡ os
-    → Rack s os cs
-    × Rack other os ds
+    → InRack s os cs
+    × InRack other os ds
     × ((o : Offer) (t u : Taken) → TakenBy (after (begun s) cs) o t → TakenBy (after (begun other) ds) o u
     → (takeNumber (t .answer) ≡ 0 → u .answer ≡ Refused 17) × (takeNumber (u .answer) ≡ 0 → t .answer ≡ Refused 17))
 rack s other settings others apart os cs ds given both = (
-  racked s settings os cs given,
-  racked other others os ds both,
+  in-rack s settings os cs given,
+  in-rack other others os ds both,
   λ o t u by beside. (
     refuses-other s other settings others apart cs ds o by beside,
     refuses-other other s others settings (λ e. apart (sym e)) ds cs o beside by,

@@ -1,3 +1,3 @@
 -- Lemmas; no part of the meaning.
-pub mod Offers
+pub mod Turns
 pub mod Refuses

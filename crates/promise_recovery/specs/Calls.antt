@@ -7,6 +7,7 @@
 --   accepted r cs    == the rows of cs, in their order, for which Take named no refusal
 --   Reachable r      == an accepted Start leaves r, or a Take of a receiver that is reachable
 --   Unforged r cs    == no call of cs is refused 14
+--   offers pack rows == the rows, each offered for the pack
 --   offered cs       == what cs offers to Take
 --   fits s o         == the test that o is offered for the pack of s, and that its row has n entries, each below q
 --   fitting s os     == the rows of os that fit
@@ -21,7 +22,7 @@ use Rattle.basics.specs.Choice.{pick}
 use Rattle.refusal.specs.Refusal.{receiverRefusal}
 use Rattle.matrix.specs.Matrix.{entriesBelow}
 use Rattle.receive.specs.Answer.{receivedNumber}
-use Rattle.receiver.specs.Receiver.{Setup, Offer, setupRefusal, startOf, takeOf, lentReceiver, lentAnswer, closeOf, takeNumber}
+use Rattle.receiver.specs.Receiver.{Setup, Offer, offer, setupRefusal, startOf, takeOf, lentReceiver, lentAnswer, closeOf, takeNumber}
 use Rattle.receiver.specs.declared.Receiver.{Receiver}
 
 pub data Call : Type 0 where
@@ -63,6 +64,10 @@ pub data Unforged : Receiver → List Call → Type 0 where
   none : {r : Receiver} → Unforged r []
   more : {r : Receiver} {c : Call} {cs : List Call} → (callNumber r c ≡ receiverRefusal → ⊥) → Unforged (after r (c ∷ [])) cs
       → Unforged r (c ∷ cs)
+
+abbrev pub offers : ℕ → List (List ℕ) → List Offer
+offers pack [] = []
+offers pack (row ∷ rows) = offer pack row ∷ offers pack rows
 
 unfoldable pub offered : List Call → List Offer
 offered [] = []

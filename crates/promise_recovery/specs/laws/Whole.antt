@@ -3,7 +3,7 @@
 --   drawn-rows-recovered == a list of calls that offers each drawn row at least once for the receiver's pack, in any order and by either
 --                           Take, and beside these only rows that are refused, and closes: closing after it gives the index, and the matrix's
 --                           own vector
---   offers pack rows     == the rows, each offered for the pack; takeAll os == these taken by value, one after the other
+--   takeAll os           == what is offered, taken by value, one after the other
 --   drawn-rows-taken     == so taking the drawn rows from the top and closing gives the index
 --   drawn-bytes-received == and so does Receive of the drawn bytes
 -- Assumes nothing.
@@ -32,7 +32,7 @@ use Rattle.receive.specs.Receive.{receiveOf}
 use Rattle.receive.specs.declared.Received.the-variants.{Done}
 use Rattle.receiver.specs.Receiver.{Setup, Offer, setup, offer, closeOf}
 use Rattle.receiver.specs.laws.Held.{settings-laws}
-use Rattle.promise_recovery.specs.Calls.{Call, begun, takeValue, after, accepted, offered, fits, fitting}
+use Rattle.promise_recovery.specs.Calls.{Call, begun, takeValue, after, accepted, offers, offered, fits, fitting}
 use Rattle.promise_recovery.specs.Demand.{Buffer}
 use Rattle.promise_recovery.specs.laws.FittingRows.{fits-own, fits-row, own-fits}
 use Rattle.promise_recovery.specs.laws.After.{accepted-fits, accepted-rows}
@@ -75,10 +75,6 @@ fitting-all s {P} (more {x = o} {xs = os} h hs) = cases (fits s o) refl h (fitti
     cases true e (inl p) ps = more p ps
     cases true e (inr outside) ps = absurd (outside (fits-own s o e, fits-row s o e))
     cases false e h ps = ps
-
-abbrev pub offers : ℕ → List (List ℕ) → List Offer
-offers pack [] = []
-offers pack (row ∷ rows) = offer pack row ∷ offers pack rows
 
 pub all-offers : (pack : ℕ) {P : Offer → Type 0} {rows : List (List ℕ)} → All (λ row. P (offer pack row)) rows → All P (offers pack rows)
 all-offers pack none = none
