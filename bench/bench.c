@@ -39,7 +39,7 @@
 
 enum { INPUTS = 64, SAMPLES = 60, BATCH_SAMPLES = 240, SAMPLE_NANOSECONDS = 300000 };
 enum { ROWS_ROOM = PLAIN_ROWS * PLAIN_LENGTH, BATCH = 10000, BATCH_ROOM = BATCH * PLAIN_ENTRIES, PAINT = 0xC3 };
-enum { STOPPED = 2 };
+enum { STOPPED = 2, PACKS = 65536 };
 
 typedef struct {
     uint64_t q, n, k;
@@ -67,7 +67,7 @@ static uint64_t indexes[INPUTS];
 static uint8_t matrices[INPUTS][PLAIN_ENTRIES], rows[INPUTS][ROWS_ROOM], out[PLAIN_ENTRIES], answer[PLAIN_ANSWER];
 static setting counted[INPUTS];
 
-/* The same receiver for both sides, and the row that it takes. */
+/* The same receiver for both sides, and the row that it takes, which is offered for its pack. */
 static harness_receiver receivers[INPUTS];
 static plain_receiver plain_receivers[INPUTS];
 static uint8_t taken[INPUTS][PLAIN_LENGTH];
@@ -165,10 +165,10 @@ static void prepare_reduce(uint64_t q, uint64_t n)
 static void prepare_receiver(unsigned input, uint64_t dimension)
 {
     uint8_t row[PLAIN_LENGTH];
-    plain_receiver receiver = plain_start(now.q, now.n, now.k).receiver;
+    plain_receiver receiver = plain_start(now.q, now.n, now.k, random_below(PACKS)).receiver;
     while (receiver.dimension < dimension) {
         mix(matrices[input], row);
-        receiver = plain_take(receiver, row, (size_t)now.n).receiver;
+        receiver = plain_take(receiver, receiver.pack, row, (size_t)now.n).receiver;
     }
     plain_receivers[input] = receiver;
     memcpy(&receivers[input], &receiver, sizeof receiver);
@@ -325,19 +325,19 @@ static uint64_t receive_packed(unsigned input)
 
 static uint64_t take_library(unsigned input)
 {
-    step = harness_take(receivers[input], taken[input], (size_t)now.n);
+    step = harness_take(receivers[input], receivers[input].pack, taken[input], (size_t)now.n);
     return step.idle << 9 | step.raised << 8 | step.receiver.dimension;
 }
 
 static uint64_t lent_library(unsigned input)
 {
-    step = harness_take_lent(receivers[input], taken[input], (size_t)now.n);
+    step = harness_take_lent(receivers[input], receivers[input].pack, taken[input], (size_t)now.n);
     return step.idle << 9 | step.raised << 8 | step.receiver.dimension;
 }
 
 static uint64_t take_plain(unsigned input)
 {
-    other_step = plain_take(plain_receivers[input], taken[input], (size_t)now.n);
+    other_step = plain_take(plain_receivers[input], plain_receivers[input].pack, taken[input], (size_t)now.n);
     return other_step.idle << 9 | other_step.raised << 8 | other_step.receiver.dimension;
 }
 

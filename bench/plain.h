@@ -22,7 +22,7 @@ enum { PLAIN_EXTENDED = 1, PLAIN_FERRERS = 2 };
 enum {
     PLAIN_DONE = 0, PLAIN_NO_FIELD = 1, PLAIN_NO_SHAPE = 2, PLAIN_NO_COUNT = 3, PLAIN_NO_LENGTH = 4, PLAIN_NO_INDEX = 5,
     PLAIN_NO_ENTRY = 6, PLAIN_UNREDUCED = 7, PLAIN_TOO_FEW = 8, PLAIN_TOO_MANY = 9, PLAIN_NO_NUMBERING = 10,
-    PLAIN_NO_LINE = 11, PLAIN_NO_LISTING = 12, PLAIN_NO_ROW_COUNT = 13, PLAIN_NO_RECEIVER = 14
+    PLAIN_NO_LINE = 11, PLAIN_NO_LISTING = 12, PLAIN_NO_ROW_COUNT = 13, PLAIN_NO_RECEIVER = 14, PLAIN_NO_PACK = 17
 };
 
 /* ---- Calls ---- */
@@ -34,7 +34,7 @@ typedef struct {
 
 typedef struct {
     uint8_t entries[PLAIN_ENTRIES];
-    uint64_t q, n, k, dimension;
+    uint64_t q, n, k, dimension, pack;
 } plain_receiver;
 
 typedef struct {
@@ -59,8 +59,8 @@ uint32_t plain_receive(uint64_t q, uint64_t n, uint64_t k, uint64_t numbering, u
                        const uint8_t *rows, size_t rows_length, uint8_t *answer, size_t answer_length);
 
 /* Start, Take and Close. Take changes its copy in place and hands it back; lent or not, that is all C can do. */
-plain_step plain_start(uint64_t q, uint64_t n, uint64_t k);
-plain_step plain_take(plain_receiver receiver, const uint8_t *row, size_t length);
+plain_step plain_start(uint64_t q, uint64_t n, uint64_t k, uint64_t pack);
+plain_step plain_take(plain_receiver receiver, uint64_t pack, const uint8_t *row, size_t length);
 plain_answer plain_close(plain_receiver receiver, uint64_t numbering);
 
 /* ---- Parts that the calls share ---- */

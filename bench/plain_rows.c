@@ -163,24 +163,28 @@ static bool reachable(const plain_receiver *receiver, uint8_t *pivots)
            plain_pivots((unsigned)receiver->n, (unsigned)receiver->dimension, receiver->entries, pivots);
 }
 
-plain_step plain_start(uint64_t q, uint64_t n, uint64_t k)
+plain_step plain_start(uint64_t q, uint64_t n, uint64_t k, uint64_t pack)
 {
-    plain_step step = {{{0}, 0, 0, 0, 0}, plain_setting(q, n, k), 0, 0};
+    plain_step step = {{{0}, 0, 0, 0, 0, 0}, plain_setting(q, n, k), 0, 0};
     if (step.refusal == PLAIN_DONE) {
         step.receiver.q = q;
         step.receiver.n = n;
         step.receiver.k = k;
+        step.receiver.pack = pack;
     }
     return step;
 }
 
 /* Takes a row in place; a row of zeros is idle, and nothing more is done with it. */
-static uint32_t take(plain_receiver *receiver, const uint8_t *row, size_t length, uint32_t *raised, uint32_t *idle)
+static uint32_t take(plain_receiver *receiver, uint64_t pack, const uint8_t *row, size_t length, uint32_t *raised,
+                     uint32_t *idle)
 {
     uint8_t pivots[PLAIN_LENGTH];
     unsigned n = (unsigned)receiver->n, before = (unsigned)receiver->dimension, after = before;
     if (!reachable(receiver, pivots))
         return PLAIN_NO_RECEIVER;
+    if (pack != receiver->pack)
+        return PLAIN_NO_PACK;
     if (length != n)
         return PLAIN_NO_LENGTH;
     uint8_t most = plain_greatest(row, length);
@@ -196,10 +200,10 @@ static uint32_t take(plain_receiver *receiver, const uint8_t *row, size_t length
     return PLAIN_DONE;
 }
 
-plain_step plain_take(plain_receiver receiver, const uint8_t *row, size_t length)
+plain_step plain_take(plain_receiver receiver, uint64_t pack, const uint8_t *row, size_t length)
 {
     plain_step step = {receiver, 0, 0, 0};
-    step.refusal = take(&step.receiver, row, length, &step.raised, &step.idle);
+    step.refusal = take(&step.receiver, pack, row, length, &step.raised, &step.idle);
     return step;
 }
 

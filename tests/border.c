@@ -266,7 +266,7 @@ static void numbers_group(void)
         {PANDRWYG_TOO_FEW, REFUSED_TOO_FEW}, {PANDRWYG_TOO_MANY, REFUSED_TOO_MANY},
         {PANDRWYG_NUMBERING, REFUSED_NUMBERING}, {PANDRWYG_LINE, REFUSED_LINE}, {PANDRWYG_LISTING, REFUSED_LISTING},
         {PANDRWYG_ROW_COUNT, REFUSED_ROW_COUNT}, {PANDRWYG_RECEIVER, REFUSED_RECEIVER},
-        {PANDRWYG_MISMATCH, REFUSED_MISMATCH},
+        {PANDRWYG_MISMATCH, REFUSED_MISMATCH}, {PANDRWYG_PACK, REFUSED_PACK},
     };
     check_group_begin("the header's refusal numbers");
     for (size_t place = 0; place < sizeof numbers / sizeof *numbers; place++)

@@ -11,38 +11,6 @@
 #include "receivers.h"
 
 enum { SCRIPTS = 100, SCRIPT_ROWS = 24, TRIPS = 10, MIXED = 8, COMBINATIONS = 1024, EVERY_ROW = 2500 };
-enum { ROW_ROOM = MAX_LENGTH + 2 };
-
-/* ---- Answers ---- */
-
-/* What Take answers, but for the receiver. */
-typedef struct {
-    uint32_t refusal, raised, idle;
-} take_answer;
-
-static const take_answer held = {ACCEPTED, 0, 0}, idle = {ACCEPTED, 0, 1};
-
-static take_answer refused(uint32_t refusal)
-{
-    return (take_answer){refusal, 0, 0};
-}
-
-static bool answers(const harness_step *step, take_answer expected)
-{
-    return step->refusal == expected.refusal && step->raised == expected.raised && step->idle == expected.idle;
-}
-
-static bool same_step(const harness_step *first, const harness_step *second)
-{
-    return answers(first, (take_answer){second->refusal, second->raised, second->idle}) &&
-           same_receiver(&first->receiver, &second->receiver);
-}
-
-static bool same_answer(const harness_answer *first, const harness_answer *second)
-{
-    return first->refusal == second->refusal && first->value == second->value &&
-           first->dimension == second->dimension && first->vector == second->vector;
-}
 
 /* ---- Rows ---- */
 
@@ -51,14 +19,6 @@ static void fill_zeros(uint8_t *row, size_t length)
 {
     memset(row, FILLING, ROW_ROOM);
     memset(row, 0, length);
-}
-
-static bool is_zero(const uint8_t *row, uint64_t n)
-{
-    uint8_t any = 0;
-    for (uint64_t column = 0; column < n; column++)
-        any |= row[column];
-    return any == 0;
 }
 
 static uint64_t power(uint64_t q, uint64_t exponent)
@@ -80,35 +40,7 @@ static uint64_t random_base(const setting *s, uint8_t *base)
 
 /* ---- One row ---- */
 
-#define RECEIVER_FORMAT SETTING_FORMAT " of dimension %" PRIu64
-#define RECEIVER_VALUES(r) SETTING_VALUES(r), (r)->dimension
-
-/* Offers a row for a pack in both forms, which must agree in every field; the row is only read. */
-static harness_step take_both(const harness_receiver *receiver, uint64_t pack, const uint8_t *row, size_t length)
-{
-    uint8_t kept[ROW_ROOM];
-    memcpy(kept, row, length);
-    harness_step by_value = take_for(BY_VALUE, receiver, pack, row, length);
-    harness_step on_lent = take_for(LENT, receiver, pack, row, length);
-    check(same_step(&by_value, &on_lent), RECEIVER_FORMAT ": %zu bytes, other answer when lent",
-          RECEIVER_VALUES(receiver), length);
-    check(memcmp(kept, row, length) == 0, "the row was changed");
-    return by_value;
-}
-
-/* A row of a pack with this answer, which must leave every byte of the receiver. */
-static void compare_untouched_for(const harness_receiver *receiver, uint64_t pack, const uint8_t *row, size_t length,
-                                  take_answer expected)
-{
-    harness_step step = take_both(receiver, pack, row, length);
-    check(answers(&step, expected),
-          RECEIVER_FORMAT ": %zu bytes give %u, raised %u, idle %u instead of %u, %u, %u", RECEIVER_VALUES(receiver),
-          length, step.refusal, step.raised, step.idle, expected.refusal, expected.raised, expected.idle);
-    check(same_receiver(&step.receiver, receiver), RECEIVER_FORMAT ": %zu bytes change the receiver",
-          RECEIVER_VALUES(receiver), length);
-}
-
-/* The same of a row of the receiver's own pack. */
+/* A row of the receiver's own pack with this answer, which must leave every byte of the receiver. */
 static void compare_untouched(const harness_receiver *receiver, const uint8_t *row, size_t length,
                               take_answer expected)
 {
@@ -235,7 +167,7 @@ static void zeros_among_scripts(const setting *s)
 
 /* ---- Zeros of every length, on receivers of every dimension ---- */
 
-/* n zeros are idle, on the empty receiver, on the full one and between; fewer or more, or another pack's, are refused. */
+/* n zeros are idle, on the empty receiver, on the full one and between; fewer, more or another pack's are refused. */
 static void zeros_at_every_dimension(const setting *s)
 {
     uint8_t row[ROW_ROOM];
@@ -288,7 +220,7 @@ static void compare_unreachable(const harness_receiver *receiver)
     }
 }
 
-/* One of the four numbers at values that it never has. */
+/* One of q, n, k and the dimension at values that it never has. */
 static void forge_numbers(const harness_receiver *receiver)
 {
     const uint64_t above[] = {receiver->n + 1, MAX_LENGTH + 1, 256 + receiver->n, UINT64_MAX};

@@ -2,7 +2,7 @@
  * Tests Pool against the second implementation, which finds common spaces by other means: every two spaces of small
  * settings, random pairs over every accepted setting, pairs whose joint and common spaces are known beforehand, pooled
  * receivers that take rows, close and are pooled again, the round trip from Draw over two receivers, and all that is
- * refused. An argument N runs about the N-th part, for slow checkers.
+ * refused, receivers of two packs among it. An argument N runs about the N-th part, for slow checkers.
  */
 #include "cases.h"
 #include "check.h"
@@ -42,7 +42,7 @@ static void check_refused(const outcome *left)
           pooled->refusal);
 }
 
-/* What is done has both dimensions, the receivers' settings, and wrote the lent bytes alone. */
+/* What is done has both dimensions, the receivers' settings and pack, and wrote the lent bytes alone. */
 static void check_done(const harness_receiver *a, const harness_receiver *b, const outcome *left)
 {
     const harness_pooled *pooled = &left->pooled;
@@ -52,6 +52,8 @@ static void check_done(const harness_receiver *a, const harness_receiver *b, con
           pooled->joint_dimension, pooled->common_dimension, a->dimension, b->dimension);
     check(pooled->receiver.q == a->q && pooled->receiver.n == a->n && pooled->receiver.k == a->k &&
           pooled->receiver.dimension == pooled->joint_dimension, SETTING_FORMAT ": other settings", SETTING_VALUES(a));
+    check(pooled->receiver.pack == a->pack && a->pack == b->pack, SETTING_FORMAT ": pack %" PRIu64 " of %" PRIu64
+          " and %" PRIu64, SETTING_VALUES(a), pooled->receiver.pack, a->pack, b->pack);
     check(square <= SQUARE && memcmp(pooled->receiver.entries, left->joint.bytes, square) == 0,
           SETTING_FORMAT ": the receiver holds another space", SETTING_VALUES(a));
     check(square <= SQUARE && outside_filled(&left->joint, square) && outside_filled(&left->common, square),
@@ -152,22 +154,23 @@ static harness_receiver take_rows(harness_receiver receiver, uint64_t count, con
     return receiver;
 }
 
-static harness_receiver receiver_with(const setting *s, uint64_t count, const uint8_t *rows)
+static harness_receiver receiver_with(const setting *s, uint64_t pack, uint64_t count, const uint8_t *rows)
 {
-    return take_rows(harness_start(s->q, s->n, s->k).receiver, count, rows);
+    return take_rows(harness_start(s->q, s->n, s->k, pack).receiver, count, rows);
 }
 
 /* ---- Every two spaces ---- */
 
-/* Lists a receiver for each space of rows of length n, and answers how many there are. */
+/* Lists a receiver for each space of rows of length n, all of one pack, and answers how many there are. */
 static size_t every_receiver(uint64_t q, uint64_t n, uint64_t k, harness_receiver *receivers)
 {
     uint8_t matrices[SPACES * MAX_LENGTH];
+    uint64_t pack = random_pack();
     size_t count = 0;
     for (uint64_t dimension = 0; dimension <= n; dimension++) {
         size_t width = (size_t)(dimension * n), found = second_enumerate(q, n, dimension, matrices);
         for (size_t place = 0; place < found; place++) {
-            receivers[count] = harness_start(q, n, k).receiver;
+            receivers[count] = harness_start(q, n, k, pack).receiver;
             receivers[count].dimension = dimension;
             memcpy(receivers[count++].entries, matrices + place * width, width);
         }
@@ -193,13 +196,13 @@ static void every_pair_group(uint64_t q, uint64_t n, uint64_t k, size_t spaces)
 static void random_pair(const setting *s, unsigned kind)
 {
     uint8_t rows[2][ROWS_LIMIT];
-    uint64_t first = random_below(s->n + 3), second = random_below(s->n + 3);
+    uint64_t first = random_below(s->n + 3), second = random_below(s->n + 3), pack = random_pack();
     random_entries(s->q, rows[0], (size_t)(first * s->n));
     random_entries(s->q, rows[1], (size_t)(second * s->n));
     for (uint64_t row = 0; row < second; row++)
         if (kind % 3 == 1 || (kind % 3 == 2 && random_below(2) == 0))
             random_mixture(s->q, s->n, first, rows[0], rows[1] + row * s->n);
-    harness_receiver a = receiver_with(s, first, rows[0]), b = receiver_with(s, second, rows[1]);
+    harness_receiver a = receiver_with(s, pack, first, rows[0]), b = receiver_with(s, pack, second, rows[1]);
     compare_both_ways(&a, &b);
 }
 
@@ -274,8 +277,9 @@ static void compare_plan(const plan *one)
 {
     const setting *s = one->s;
     uint64_t shared = one->parts[SHARED], first = shared + one->parts[FIRST], joint = first + one->parts[SECOND];
-    harness_receiver a = receiver_with(s, first, one->basis);
-    harness_receiver b = receiver_with(s, one->parts[SECOND], one->basis + first * s->n);
+    uint64_t pack = random_pack();
+    harness_receiver a = receiver_with(s, pack, first, one->basis);
+    harness_receiver b = receiver_with(s, pack, one->parts[SECOND], one->basis + first * s->n);
     b = take_rows(b, shared, one->basis);
     outcome left = compare_both_ways(&a, &b);
     check(left.pooled.refusal == ACCEPTED && left.pooled.joint_dimension == joint &&
@@ -303,8 +307,9 @@ static void plans_group(uint64_t q)
 static void compare_figure(setting s, const char *first, const char *second, const char *joint, const char *common)
 {
     uint8_t rows[SQUARE], expected[2][SQUARE] = {{0}};
-    harness_receiver a = receiver_with(&s, read_rows(first, rows) / s.n, rows);
-    harness_receiver b = receiver_with(&s, read_rows(second, rows) / s.n, rows);
+    uint64_t pack = random_pack();
+    harness_receiver a = receiver_with(&s, pack, read_rows(first, rows) / s.n, rows);
+    harness_receiver b = receiver_with(&s, pack, read_rows(second, rows) / s.n, rows);
     size_t square = (size_t)(s.n * s.n), joint_length = read_rows(joint, expected[0]);
     size_t common_length = read_rows(common, expected[1]);
     outcome left = compare_both_ways(&a, &b);
@@ -372,7 +377,7 @@ static void random_lists(const setting *s, lists *three)
     uint8_t base[SQUARE];
     uint64_t base_count = random_below(4) == 0 ? s->n : s->k;
     random_entries(s->q, base, (size_t)(base_count * s->n));
-    second_start(s->q, s->n, s->k, &three->list);
+    second_start(s->q, s->n, s->k, random_pack(), &three->list);
     three->begin[0] = 0;
     for (unsigned place = 0; place < 3; place++)
         three->begin[place + 1] = three->begin[place] + random_below(s->n / 2 + 3);
@@ -383,7 +388,7 @@ static void random_lists(const setting *s, lists *three)
 
 static harness_receiver list_taken(const setting *s, const lists *three, unsigned place)
 {
-    return receiver_with(s, three->begin[place + 1] - three->begin[place],
+    return receiver_with(s, three->list.pack, three->begin[place + 1] - three->begin[place],
                          three->list.rows + three->begin[place] * s->n);
 }
 
@@ -396,7 +401,8 @@ static void compare_chain(const setting *s)
     uint64_t third_count = three.begin[3] - three.begin[2];
     harness_receiver a = list_taken(s, &three, 0), b = list_taken(s, &three, 1), c = list_taken(s, &three, 2);
     harness_receiver pair = compare_pool(&a, &b).pooled.receiver, other_pair = compare_pool(&b, &c).pooled.receiver;
-    harness_receiver two = receiver_with(s, three.begin[2], three.list.rows), all = take_rows(two, third_count, third);
+    harness_receiver two = receiver_with(s, three.list.pack, three.begin[2], three.list.rows);
+    harness_receiver all = take_rows(two, third_count, third);
     harness_receiver later = take_rows(pair, third_count, third);
     outcome left = compare_pool(&pair, &c), right = compare_pool(&a, &other_pair);
     check(same_receiver(&pair, &two), SETTING_FORMAT ": two lists", SETTING_VALUES(s));
@@ -447,7 +453,7 @@ static void round_trip(const setting *s, uint64_t numbering)
 {
     uint8_t matrix[SQUARE], factors[ROWS_LIMIT], row[MAX_LENGTH];
     uint64_t index = random_index(s->count), share = 1 + random_below(3);
-    harness_receiver start = harness_start(s->q, s->n, s->k).receiver, receivers[2] = {start, start};
+    harness_receiver start = harness_start(s->q, s->n, s->k, random_pack()).receiver, receivers[2] = {start, start};
     uint32_t refusal = pandrwyg_draw(s->q, s->n, s->k, numbering, index, matrix, width_of(s));
     check(refusal == ACCEPTED, SETTING_FORMAT ": draw refused %u", SETTING_VALUES(s), refusal);
     for (uint64_t r = 0; r < s->k + 3; r++) {
@@ -491,15 +497,16 @@ static void compare_any(const harness_receiver *any, const harness_receiver *goo
           first.pooled.refusal, second.pooled.refusal, both.pooled.refusal);
 }
 
-/* Every byte of a receiver, those of its four numbers too, at several other values. */
+/* Every byte of a receiver, those of its numbers too, at several other values; another pack is as good. */
 static void single_byte_group(uint64_t q, uint64_t n, uint64_t k, uint64_t dimension)
 {
     static const uint8_t changes[] = {1, 2, 3, 4, 5, 6, 7, 8, 16, 32, 64, 128, 255};
     check_group_begin("damaged bytes, %" PRIu64 ",%" PRIu64 ",%" PRIu64 " of dimension %" PRIu64, q, n, k, dimension);
-    harness_receiver receiver = receiver_of(q, n, k, dimension), good = receiver_of(q, n, k, random_below(n + 1));
+    harness_receiver receiver = receiver_of(q, n, k, random_pack(), dimension);
+    harness_receiver good = receiver_of(q, n, k, receiver.pack, random_below(n + 1));
     begin_any_group();
     compare_any(&receiver, &good);
-    for (size_t place = 0; place < sizeof receiver; place++)
+    for (size_t place = 0; place < RECEIVER_BYTES; place++)
         for (size_t change = 0; change < COUNT_OF(changes); change += thinning) {
             harness_receiver damaged = receiver;
             ((uint8_t *)&damaged)[place] ^= changes[change];
@@ -515,8 +522,10 @@ static void damaged_rows_group(void)
     for (size_t number = 0; number < setting_count; number += thinning)
         for (unsigned round = 0; round < DAMAGES; round++) {
             const setting *s = &settings[number];
-            harness_receiver receiver = receiver_of(s->q, s->n, s->k, 1 + random_below(s->n));
-            harness_receiver good = round % 2 == 0 ? receiver : receiver_of(s->q, s->n, s->k, random_below(s->n + 1));
+            harness_receiver receiver = receiver_of(s->q, s->n, s->k, random_pack(), 1 + random_below(s->n));
+            harness_receiver good = receiver;
+            if (round % 2 == 1)
+                good = receiver_of(s->q, s->n, s->k, receiver.pack, random_below(s->n + 1));
             if (receiver.dimension > 0)
                 damage_rows(&receiver);
             compare_any(&receiver, &good);
@@ -524,14 +533,15 @@ static void damaged_rows_group(void)
     end_any_group();
 }
 
-/* One of the four numbers forged, in one of the receivers or in both. */
+/* One of q, n, k and the dimension forged, in one of the receivers or in both. */
 static void forged_numbers_group(void)
 {
     check_group_begin("forged settings and dimensions");
     begin_any_group();
     for (size_t number = 0; number < setting_count; number += thinning) {
         const setting *s = &settings[number];
-        harness_receiver good = receiver_of(s->q, s->n, s->k, number % 3 == 0 ? 0 : random_below(s->n + 1));
+        uint64_t dimension = number % 3 == 0 ? 0 : random_below(s->n + 1);
+        harness_receiver good = receiver_of(s->q, s->n, s->k, random_pack(), dimension);
         for (size_t place = number % 4; place < COUNT_OF(forged); place += 4) {
             harness_receiver changed[4] = {good, good, good, good};
             changed[0].q = forged[place];
@@ -542,7 +552,7 @@ static void forged_numbers_group(void)
                 compare_any(&changed[which], &good);
         }
     }
-    compare_any(&zeros, &(harness_receiver){{1}, 2, 1, 1, 1});
+    compare_any(&zeros, &(harness_receiver){{1}, 2, 1, 1, 1, 0});
     end_any_group();
 }
 
@@ -554,7 +564,7 @@ static void forged_sizes_group(void)
     for (size_t number = 0; number < setting_count; number += thinning)
         for (size_t place = 0; place < COUNT_OF(wrong_sizes); place++) {
             const setting *s = &settings[number];
-            harness_receiver good = receiver_of(s->q, s->n, s->k, random_below(s->n + 1)), wrong = good;
+            harness_receiver good = receiver_of(s->q, s->n, s->k, random_pack(), random_below(s->n + 1)), wrong = good;
             wrong.q = wrong_sizes[place];
             compare_any(&wrong, &good);
         }
@@ -564,25 +574,26 @@ static void forged_sizes_group(void)
 
 /* ---- Receivers that differ ---- */
 
-/* Two good receivers of other settings: 16, with buffers of the one, of the other, and wrong ones. */
+/* Two good receivers of other settings or packs: 16, with buffers of the one, of the other, and wrong ones. */
 static void compare_differing(const harness_receiver *a, const harness_receiver *b)
 {
     size_t lengths[] = {(size_t)(a->n * a->n), (size_t)(b->n * b->n), random_below(SQUARE + 2)};
     for (size_t place = 0; place < COUNT_OF(lengths); place++) {
         outcome left = compare_into(a, b, lengths[place], lengths[random_below(COUNT_OF(lengths))]);
-        check(left.pooled.refusal == REFUSED_MISMATCH, SETTING_FORMAT " and " SETTING_FORMAT ": refusal %u",
-              SETTING_VALUES(a), SETTING_VALUES(b), left.pooled.refusal);
+        check(left.pooled.refusal == REFUSED_MISMATCH, SETTING_FORMAT " of pack %" PRIu64 " and " SETTING_FORMAT
+              " of pack %" PRIu64 ": refusal %u", SETTING_VALUES(a), a->pack, SETTING_VALUES(b), b->pack,
+              left.pooled.refusal);
     }
 }
 
-/* Of two settings that differ: receivers of any dimension, and two that are the same but for their settings. */
-static void compare_settings(const setting *s, const setting *other)
+/* Of settings or packs that differ: receivers of any dimension, and two that are the same but for these. */
+static void compare_settings(const setting *s, uint64_t pack, const setting *other, uint64_t beside)
 {
-    harness_receiver a = receiver_of(s->q, s->n, s->k, random_below(s->n + 1));
-    harness_receiver b = receiver_of(other->q, other->n, other->k, random_below(other->n + 1));
+    harness_receiver a = receiver_of(s->q, s->n, s->k, pack, random_below(s->n + 1));
+    harness_receiver b = receiver_of(other->q, other->n, other->k, beside, random_below(other->n + 1));
     compare_differing(&a, &b);
-    a = harness_start(s->q, s->n, s->k).receiver;
-    b = harness_start(other->q, other->n, other->k).receiver;
+    a = harness_start(s->q, s->n, s->k, pack).receiver;
+    b = harness_start(other->q, other->n, other->k, beside).receiver;
     if (s->n == other->n && random_below(2) == 0) {
         uint64_t dimension = 1 + random_below(s->n);
         a.dimension = dimension;
@@ -595,22 +606,58 @@ static void compare_settings(const setting *s, const setting *other)
     compare_differing(&a, &b);
 }
 
-enum { IN_Q = 1, IN_N = 2, IN_K = 4 };
+enum { IN_Q = 1, IN_N = 2, IN_K = 4, IN_SETTINGS = 7, IN_PACK = 8 };
 
 static unsigned difference_of(const setting *s, const setting *other)
 {
     return (s->q != other->q ? IN_Q : 0) | (s->n != other->n ? IN_N : 0) | (s->k != other->k ? IN_K : 0);
 }
 
-/* Every two settings that differ in one number, and some of those that differ in more. */
+/* One in so many pairs of settings is tried: fewer where more of their numbers differ. */
+static uint64_t rarity_of(unsigned differing)
+{
+    switch (differing & IN_SETTINGS) {
+    case 0: return 1;
+    case IN_Q: case IN_N: case IN_K: return 2;
+    default: return 32;
+    }
+}
+
+/* Settings that differ in these numbers, with one pack or two. */
 static void differing_group(unsigned differing, const char *name)
 {
-    bool one = differing == IN_Q || differing == IN_N || differing == IN_K;
-    check_group_begin("settings that differ in %s", name);
+    check_group_begin("receivers that differ in %s", name);
     for (size_t number = 0; number < setting_count; number += thinning)
-        for (size_t other = 0; other < setting_count; other++)
-            if (difference_of(&settings[number], &settings[other]) == differing && random_below(one ? 2 : 32) == 0)
-                compare_settings(&settings[number], &settings[other]);
+        for (size_t other = 0; other < setting_count; other++) {
+            const setting *s = &settings[number], *beside = &settings[other];
+            uint64_t pack = random_pack();
+            if (difference_of(s, beside) == (differing & IN_SETTINGS) && random_below(rarity_of(differing)) == 0)
+                compare_settings(s, pack, beside, differing & IN_PACK ? other_pack(pack) : pack);
+        }
+    check_group_end();
+}
+
+/* Receivers of the two packs: 16 either way. Two of one of the packs give a receiver of that pack. */
+static void compare_packs(const setting *s, const uint64_t packs[2])
+{
+    compare_settings(s, packs[0], s, packs[1]);
+    compare_settings(s, packs[1], s, packs[0]);
+    for (unsigned place = 0; place < 2; place++) {
+        harness_receiver a = receiver_of(s->q, s->n, s->k, packs[place], random_below(s->n + 1));
+        harness_receiver b = receiver_of(s->q, s->n, s->k, packs[place], random_below(s->n + 1));
+        outcome left = compare_both_ways(&a, &b);
+        check(left.pooled.refusal == ACCEPTED && left.pooled.receiver.pack == packs[place],
+              SETTING_FORMAT " of pack %" PRIu64 ": refusal %u, pack %" PRIu64, SETTING_VALUES(s), packs[place],
+              left.pooled.refusal, left.pooled.receiver.pack);
+    }
+}
+
+static void packs_group(void)
+{
+    check_group_begin("packs at the ends, or that differ in one byte");
+    for (size_t number = 0; number < setting_count; number += thinning)
+        for (size_t place = 0; place < COUNT_OF(pack_pairs); place++)
+            compare_packs(&settings[number], pack_pairs[place]);
     check_group_end();
 }
 
@@ -622,8 +669,8 @@ static void compare_lengths(const setting *s)
     size_t n = (size_t)s->n, square = n * n;
     const size_t lengths[] = {square, square - 1, square + 1, 0, 1, n, 2 * n, width_of(s), (n - 1) * (n - 1),
                               SQUARE - 1, SQUARE, SQUARE + 1, SQUARE + MARGIN};
-    harness_receiver a = receiver_of(s->q, s->n, s->k, random_below(s->n + 1));
-    harness_receiver b = receiver_of(s->q, s->n, s->k, random_below(s->n + 1));
+    harness_receiver a = receiver_of(s->q, s->n, s->k, random_pack(), random_below(s->n + 1));
+    harness_receiver b = receiver_of(s->q, s->n, s->k, a.pack, random_below(s->n + 1));
     for (size_t place = 0; place < COUNT_OF(lengths); place++) {
         uint32_t due = lengths[place] == square ? ACCEPTED : REFUSED_LENGTH;
         size_t other = lengths[1 + random_below(COUNT_OF(lengths) - 1)];
@@ -644,42 +691,35 @@ static void lengths_group(void)
 
 /* ---- The order of the refusals ---- */
 
-enum { FIRST_FORGED = 1, SECOND_FORGED = 2, DIFFERING = 4, JOINT_WRONG = 8, COMMON_WRONG = 16, FAULTS = 32 };
+enum {
+    FIRST_FORGED = 1, SECOND_FORGED = 2, OTHER_SETTINGS = 4, OTHER_PACK = 8, JOINT_WRONG = 16, COMMON_WRONG = 32,
+    FAULTS = 64
+};
 
 static uint32_t first_refusal(unsigned faults)
 {
     if (faults & (FIRST_FORGED | SECOND_FORGED))
         return REFUSED_RECEIVER;
-    if (faults & DIFFERING)
+    if (faults & (OTHER_SETTINGS | OTHER_PACK))
         return REFUSED_MISMATCH;
     return faults & (JOINT_WRONG | COMMON_WRONG) ? REFUSED_LENGTH : ACCEPTED;
 }
 
-/* Damages a receiver so that no calls lead to it. */
-static void forge(harness_receiver *receiver)
-{
-    switch (random_below(3)) {
-    case 0: receiver->dimension = receiver->n + 1; break;
-    case 1: receiver->entries[SQUARE - 1] = 2; break;
-    default: receiver->entries[0] = (uint8_t)receiver->q;
-    }
-}
-
-/* A good receiver of other settings. */
-static harness_receiver differing_from(const setting *s)
+static const setting *differing_from(const setting *s)
 {
     const setting *other = s;
     while (difference_of(s, other) == 0)
         other = &settings[random_below(setting_count)];
-    return receiver_of(other->q, other->n, other->k, random_below(other->n + 1));
+    return other;
 }
 
 static void compare_faults(const setting *s, unsigned faults)
 {
     size_t square = (size_t)(s->n * s->n);
-    harness_receiver a = receiver_of(s->q, s->n, s->k, random_below(s->n + 1));
-    harness_receiver b = faults & DIFFERING ? differing_from(s)
-                                            : receiver_of(s->q, s->n, s->k, random_below(s->n + 1));
+    uint64_t pack = random_pack(), beside = faults & OTHER_PACK ? other_pack(pack) : pack;
+    const setting *other = faults & OTHER_SETTINGS ? differing_from(s) : s;
+    harness_receiver a = receiver_of(s->q, s->n, s->k, pack, random_below(s->n + 1));
+    harness_receiver b = receiver_of(other->q, other->n, other->k, beside, random_below(other->n + 1));
     if (faults & FIRST_FORGED)
         forge(&a);
     if (faults & SECOND_FORGED)
@@ -747,6 +787,12 @@ static void differing_groups(void)
     differing_group(IN_Q | IN_K, "q and k");
     differing_group(IN_N | IN_K, "n and k");
     differing_group(IN_Q | IN_N | IN_K, "q, n and k");
+    differing_group(IN_PACK, "the pack");
+    differing_group(IN_Q | IN_PACK, "q and the pack");
+    differing_group(IN_N | IN_PACK, "n and the pack");
+    differing_group(IN_K | IN_PACK, "k and the pack");
+    differing_group(IN_Q | IN_N | IN_K | IN_PACK, "q, n, k and the pack");
+    packs_group();
 }
 
 int main(int argument_count, char **arguments)

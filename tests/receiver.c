@@ -326,7 +326,7 @@ static void every_filling_group(uint64_t q, uint64_t n, uint64_t k, size_t fille
     end_any_group();
 }
 
-/* One of the four numbers, or two of them, forged. */
+/* One of q, n, k and the dimension, or two of them, forged. */
 static void compare_forged(const harness_receiver *receiver, uint64_t value)
 {
     harness_receiver q = *receiver, n = *receiver, k = *receiver, dimension = *receiver, both = *receiver;

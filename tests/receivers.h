@@ -1,6 +1,6 @@
 /*
  * What the tests of the receiver's calls share: receivers as the library and as the second implementation have them,
- * pack numbers, Take in either form, rows, receivers of a given dimension, and damage.
+ * pack numbers, Take in either form and its answers, rows, receivers of a given dimension, and damage.
  */
 #ifndef RECEIVERS_H
 #define RECEIVERS_H
@@ -34,14 +34,14 @@ static inline uint32_t revive(const harness_receiver *receiver, second_receiver 
 
 enum { PACK_LIMIT = 65536 };
 
-/* Any pack number, or one near which a narrower or a signed number ends. */
+/* Any pack number, or one at which a narrower or a signed number would end. */
 static inline uint64_t random_pack(void)
 {
     static const uint64_t ends[] = {0, 1, 127, 128, 255, 256, 257, 32767, 32768, 65280, 65534, 65535};
     return random_below(2) == 0 ? ends[random_below(COUNT_OF(ends))] : random_below(PACK_LIMIT);
 }
 
-/* Another pack number: one bit or one byte alone differs, or any part. */
+/* Another pack number: it differs in one bit, in one byte alone, or anyhow. */
 static inline uint64_t other_pack(uint64_t pack)
 {
     switch (random_below(4)) {
@@ -51,6 +51,12 @@ static inline uint64_t other_pack(uint64_t pack)
     default: return pack ^ (1 + random_below(PACK_LIMIT - 1));
     }
 }
+
+/* Two packs: the ends and their neighbours, and numbers that differ in one byte alone, or in the order of the bytes. */
+static const uint64_t pack_pairs[][2] = {
+    {0, 1}, {0, 255}, {0, 256}, {0, 65535}, {255, 256}, {255, 65535}, {256, 65535}, {65534, 65535}, {32767, 65535},
+    {0x0102, 0x0202}, {0x0102, 0x0103}, {0x0102, 0x0201}, {0x00FF, 0xFF00},
+};
 
 /* The pack that a row is offered for: mostly the receiver's. */
 static inline uint64_t offered_pack(uint64_t pack)
@@ -82,7 +88,79 @@ static inline harness_step take(take_form form, const harness_receiver *receiver
     return take_for(form, receiver, receiver->pack, row, length);
 }
 
+/* ---- Answers ---- */
+
+/* What Take answers, but for the receiver. */
+typedef struct {
+    uint32_t refusal, raised, idle;
+} take_answer;
+
+static const take_answer held = {ACCEPTED, 0, 0}, idle = {ACCEPTED, 0, 1};
+
+static inline take_answer refused(uint32_t refusal)
+{
+    return (take_answer){refusal, 0, 0};
+}
+
+static inline bool answers(const harness_step *step, take_answer expected)
+{
+    return step->refusal == expected.refusal && step->raised == expected.raised && step->idle == expected.idle;
+}
+
+static inline bool same_step(const harness_step *first, const harness_step *second)
+{
+    return answers(first, (take_answer){second->refusal, second->raised, second->idle}) &&
+           same_receiver(&first->receiver, &second->receiver);
+}
+
+static inline bool same_answer(const harness_answer *first, const harness_answer *second)
+{
+    return first->refusal == second->refusal && first->value == second->value &&
+           first->dimension == second->dimension && first->vector == second->vector;
+}
+
+#define RECEIVER_FORMAT SETTING_FORMAT " of dimension %" PRIu64 " and pack %" PRIu64
+#define RECEIVER_VALUES(r) SETTING_VALUES(r), (r)->dimension, (r)->pack
+
+/* Room for a row of more than 16 bytes. */
+enum { ROW_ROOM = MAX_LENGTH + 2 };
+
+/* Offers a row for a pack in both forms, which must agree in every field; the row is only read. */
+static inline harness_step take_both(const harness_receiver *receiver, uint64_t pack, const uint8_t *row,
+                                     size_t length)
+{
+    uint8_t kept[ROW_ROOM];
+    memcpy(kept, row, length);
+    harness_step by_value = take_for(BY_VALUE, receiver, pack, row, length);
+    harness_step on_lent = take_for(LENT, receiver, pack, row, length);
+    check(same_step(&by_value, &on_lent), RECEIVER_FORMAT ": %zu bytes for %" PRIu64 ", other answer when lent",
+          RECEIVER_VALUES(receiver), length, pack);
+    check(memcmp(kept, row, length) == 0, "the row was changed");
+    return by_value;
+}
+
+/* A row of a pack with this answer, which must leave every byte of the receiver. */
+static inline void compare_untouched_for(const harness_receiver *receiver, uint64_t pack, const uint8_t *row,
+                                         size_t length, take_answer expected)
+{
+    harness_step step = take_both(receiver, pack, row, length);
+    check(answers(&step, expected),
+          RECEIVER_FORMAT ": %zu bytes for %" PRIu64 " give %u, raised %u, idle %u instead of %u, %u, %u",
+          RECEIVER_VALUES(receiver), length, pack, step.refusal, step.raised, step.idle, expected.refusal,
+          expected.raised, expected.idle);
+    check(same_receiver(&step.receiver, receiver), RECEIVER_FORMAT ": %zu bytes for %" PRIu64 " change the receiver",
+          RECEIVER_VALUES(receiver), length, pack);
+}
+
 /* ---- Rows ---- */
+
+static inline bool is_zero(const uint8_t *row, uint64_t n)
+{
+    uint8_t any = 0;
+    for (uint64_t column = 0; column < n; column++)
+        any |= row[column];
+    return any == 0;
+}
 
 static inline void random_mixture(uint64_t q, uint64_t n, uint64_t count, const uint8_t *rows, uint8_t *mixture)
 {
@@ -167,6 +245,16 @@ static inline void end_any_group(void)
 
 /* The bytes of a receiver that may be damaged; of a pack these are the two lowest. */
 enum { RECEIVER_BYTES = offsetof(harness_receiver, pack) + 2 };
+
+/* Damages a receiver so that no calls lead to it. */
+static inline void forge(harness_receiver *receiver)
+{
+    switch (random_below(3)) {
+    case 0: receiver->dimension = receiver->n + 1; break;
+    case 1: receiver->entries[sizeof receiver->entries - 1] = 2; break;
+    default: receiver->entries[0] = (uint8_t)receiver->q;
+    }
+}
 
 /* Changes the rows of a receiver that has some: mostly the same span, told by other rows. */
 static inline void damage_rows(harness_receiver *receiver)

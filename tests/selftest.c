@@ -2,7 +2,7 @@
  * Tests the second implementation against itself: counting and searching against the sorted lists of all reduced
  * matrices, formula (1) against the diagrams, the elimination and the common spaces against spans written out in full,
  * the receiver against the counts, the fields against their laws, and all against the figures of document 001 and the
- * words of order 7.
+ * words of orders 7 and 8.
  */
 #include "cases.h"
 #include "check.h"
@@ -417,7 +417,7 @@ static void revived_group(uint64_t q, uint64_t n)
     for (uint64_t dimension = 0; dimension <= n; dimension++) {
         uint64_t revived = 0, count;
         do
-            revived += second_revive(q, n, 0, dimension, entries, &receiver) == ACCEPTED;
+            revived += second_revive(q, n, 0, 256, dimension, entries, &receiver) == ACCEPTED && receiver.pack == 256;
         while (next_entries(q - 1, entries, (size_t)(dimension * n)));
         second_count(q, n, dimension, &count);
         check(revived == count, "%" PRIu64 " of dimension %" PRIu64, revived, dimension);
@@ -434,37 +434,46 @@ static void receiver_figures_group(void)
     second_taken taken;
     check_group_begin("receiver figures");
     read_rows("110/011/101", rows);
-    check(second_start(2, 16, 7, &receiver) == REFUSED_COUNT && receiver.q == 0, "refused start");
-    check(second_start(2, 3, 2, &receiver) == ACCEPTED, "start");
-    check(second_take(&receiver, rows, 3, &taken) == ACCEPTED && taken.raised == 1, "110 is raised");
-    check(second_take(&receiver, rows, 2, &taken) == REFUSED_LENGTH && taken.raised == 0, "two bytes");
+    check(second_start(2, 16, 7, 5, &receiver) == REFUSED_COUNT && receiver.q == 0 && receiver.pack == 0,
+          "refused start");
+    check(second_start(2, 3, 2, 5, &receiver) == ACCEPTED && receiver.pack == 5, "start");
+    check(second_take(&receiver, 5, rows, 3, &taken) == ACCEPTED && taken.raised == 1, "110 is raised");
+    check(second_take(&receiver, 5, rows, 2, &taken) == REFUSED_LENGTH && taken.raised == 0, "two bytes");
     check(second_close(&receiver, EXTENDED, &index, &told) == REFUSED_TOO_FEW && told.dimension == 1 && told.vector == 4,
           "110 alone");
-    check(second_take(&receiver, rows + 3, 3, &taken) == ACCEPTED && taken.raised == 1, "011 is raised");
-    check(second_take(&receiver, rows + 6, 3, &taken) == ACCEPTED && taken.raised == 0, "101 is held");
+    check(second_take(&receiver, 5, rows + 3, 3, &taken) == ACCEPTED && taken.raised == 1, "011 is raised");
+    check(second_take(&receiver, 5, rows + 6, 3, &taken) == ACCEPTED && taken.raised == 0, "101 is held");
     check(second_close(&receiver, FERRERS, &index, &told) == ACCEPTED && index == 3 && told.vector == 6,
           "the span's index");
     check(second_entries(&receiver, entries) == 2 && memcmp(entries, expected, sizeof expected) == 0, "the entries");
-    check(second_revive(2, 3, 2, 2, entries, &receiver) == ACCEPTED && receiver.r == 2, "the same receiver");
-    check(second_revive(2, 3, 2, 1, entries, &receiver) == REFUSED_RECEIVER, "a row too many");
-    check(second_revive(2, 3, 2, 3, entries, &receiver) == REFUSED_RECEIVER, "a zero row");
-    check(second_revive(2, 3, 2, UINT64_MAX, entries, &receiver) == REFUSED_RECEIVER, "dimension 2^64 - 1");
+    check(second_revive(2, 3, 2, 5, 2, entries, &receiver) == ACCEPTED && receiver.r == 2, "the same receiver");
+    check(second_revive(2, 3, 2, 5, 1, entries, &receiver) == REFUSED_RECEIVER, "a row too many");
+    check(second_revive(2, 3, 2, 5, 3, entries, &receiver) == REFUSED_RECEIVER, "a zero row");
+    check(second_revive(2, 3, 2, 5, UINT64_MAX, entries, &receiver) == REFUSED_RECEIVER, "dimension 2^64 - 1");
     entries[255] = 1;
-    check(second_revive(2, 3, 2, 2, entries, &receiver) == REFUSED_RECEIVER, "a nonzero last entry");
+    check(second_revive(2, 3, 2, 5, 2, entries, &receiver) == REFUSED_RECEIVER && receiver.pack == 0,
+          "a nonzero last entry");
     check_group_end();
 }
 
-/* Takes rows of so many digits each, with one refusal or none; raised is told by 1, idle by 2, all else by 0. */
-static void compare_taken(second_receiver *receiver, const char *rows, size_t length, uint32_t refusal,
-                          const char *answers)
+/* Offers rows of so many digits each, with one refusal or none; raised is told by 1, idle by 2, all else by 0. */
+static void compare_offered(second_receiver *receiver, uint64_t pack, const char *rows, size_t length, uint32_t refusal,
+                            const char *answers)
 {
     uint8_t entries[ROWS_LIMIT];
     second_taken taken;
     size_t count = read_rows(rows, entries) / length;
     for (size_t row = 0; row < count; row++)
-        check(second_take(receiver, entries + row * length, length, &taken) == refusal &&
+        check(second_take(receiver, pack, entries + row * length, length, &taken) == refusal &&
               taken.raised == (answers[row] == '1') && taken.idle == (answers[row] == '2'),
               "%s: row %zu, raised %u, idle %u", rows, row, taken.raised, taken.idle);
+}
+
+/* The same for the receiver's own pack. */
+static void compare_taken(second_receiver *receiver, const char *rows, size_t length, uint32_t refusal,
+                          const char *answers)
+{
+    compare_offered(receiver, receiver->pack, rows, length, refusal, answers);
 }
 
 /* Zero rows are idle before all others, after them, and once the receiver is full; those of a wrong length are not. */
@@ -473,7 +482,7 @@ static void idle_figures_group(void)
     uint8_t entries[2][MAX_LENGTH * MAX_LENGTH];
     second_receiver receiver;
     check_group_begin("idle rows");
-    second_start(2, 3, 2, &receiver);
+    second_start(2, 3, 2, 0, &receiver);
     compare_taken(&receiver, "000/000/110/000/110/011/101", 3, ACCEPTED, "2212010");
     second_entries(&receiver, entries[0]);
     compare_taken(&receiver, "000/000/101", 3, ACCEPTED, "220");
@@ -483,12 +492,34 @@ static void idle_figures_group(void)
     check(second_entries(&receiver, entries[1]) == 2 && memcmp(entries[0], entries[1], sizeof entries[0]) == 0,
           "only raised rows change the entries");
     compare_taken(&receiver, "001/000/111/100", 3, ACCEPTED, "1200");
-    second_start(7, 2, 1, &receiver);
+    second_start(7, 2, 1, 65535, &receiver);
     compare_taken(&receiver, "00/06/01/00/60/00/66", 2, ACCEPTED, "2102120");
-    second_start(4, 2, 1, &receiver);
+    second_start(4, 2, 1, 255, &receiver);
     compare_taken(&receiver, "00/12/23/31/00/13", 2, ACCEPTED, "210021"); /* 2 and 3 times 12 are held */
-    second_start(8, 2, 1, &receiver);
+    second_start(8, 2, 1, 256, &receiver);
     compare_taken(&receiver, "14/23/00/52/11", 2, ACCEPTED, "10201"); /* 2 and 5 times 14 */
+    check_group_end();
+}
+
+/* Order 8: whatever is offered for another pack is refused 17 before all else, and leaves the receiver. */
+static void pack_figures_group(void)
+{
+    second_receiver receiver, kept;
+    uint64_t index;
+    second_told told;
+    check_group_begin("rows of another pack");
+    second_start(2, 3, 2, 0x0102, &receiver);
+    compare_offered(&receiver, 0x0102, "110/000", 3, ACCEPTED, "12");
+    kept = receiver;
+    compare_offered(&receiver, 0x0103, "011/110/000/002", 3, REFUSED_PACK, "0000");
+    compare_offered(&receiver, 0x0202, "01/00/20", 2, REFUSED_PACK, "000");
+    compare_offered(&receiver, 0, "0000/0003", 4, REFUSED_PACK, "00");
+    compare_offered(&receiver, 65535, "001/111", 3, REFUSED_PACK, "00");
+    check(memcmp(&receiver, &kept, sizeof kept) == 0, "only accepted rows change the receiver");
+    compare_offered(&receiver, 0x0102, "00/20", 2, REFUSED_LENGTH, "00");
+    compare_offered(&receiver, 0x0102, "002", 3, REFUSED_ENTRY, "0");
+    compare_offered(&receiver, 0x0102, "011/101", 3, ACCEPTED, "10");
+    check(second_close(&receiver, EXTENDED, &index, &told) == ACCEPTED && index == 3, "the span's index");
     check_group_end();
 }
 
@@ -502,9 +533,9 @@ static void compare_pool_figure(uint64_t q, uint64_t n, const char *first, const
     second_taken taken;
     const char *const texts[] = {first, second};
     for (unsigned place = 0; place < 2; place++) {
-        second_start(q, n, 1, &receivers[place]);
+        second_start(q, n, 1, 65535, &receivers[place]);
         for (size_t row = 0, count = read_rows(texts[place], rows) / n; row < count; row++)
-            second_take(&receivers[place], rows + row * n, (size_t)n, &taken);
+            second_take(&receivers[place], 65535, rows + row * n, (size_t)n, &taken);
     }
     memset(expected, 0, sizeof expected);
     size_t length = (size_t)(n * n), joint_length = read_rows(joint, expected[0]);
@@ -514,8 +545,8 @@ static void compare_pool_figure(uint64_t q, uint64_t n, const char *first, const
           pooled.common_dimension == common_length / n, "%s and %s: dimensions", first, second);
     check(memcmp(matrices[0], expected[0], length) == 0, "%s and %s: the joint space", first, second);
     check(memcmp(matrices[1], expected[1], length) == 0, "%s and %s: the common space", first, second);
-    check(pooled.receiver.r == joint_length / n && memcmp(pooled.receiver.rows, expected[0], length) == 0,
-          "%s and %s: the receiver", first, second);
+    check(pooled.receiver.r == joint_length / n && memcmp(pooled.receiver.rows, expected[0], length) == 0 &&
+          pooled.receiver.pack == 65535, "%s and %s: the receiver", first, second);
 }
 
 static void pool_figures_group(void)
@@ -547,18 +578,22 @@ static void pool_refusals_group(void)
     static const second_receiver none;
     static const second_pooled nothing;
     uint8_t bytes[2][9];
-    second_receiver good, other_k, other_n;
+    second_receiver good, other_k, other_n, other_pack;
     second_pooled pooled;
     memset(bytes, FILLING, sizeof bytes);
-    second_start(2, 3, 2, &good);
-    second_start(2, 3, 1, &other_k);
-    second_start(2, 2, 2, &other_n);
+    second_start(2, 3, 2, 256, &good);
+    second_start(2, 3, 1, 256, &other_k);
+    second_start(2, 2, 2, 256, &other_n);
+    second_start(2, 3, 2, 257, &other_pack);
     check_group_begin("pool refusals");
     check(second_pool(&none, &none, bytes[0], 1, bytes[1], 1, &pooled) == REFUSED_RECEIVER, "two forged");
     check(second_pool(&none, &good, bytes[0], 9, bytes[1], 9, &pooled) == REFUSED_RECEIVER, "the first forged");
     check(second_pool(&good, &none, bytes[0], 9, bytes[1], 8, &pooled) == REFUSED_RECEIVER, "14 before 16 and 4");
     check(second_pool(&good, &other_k, bytes[0], 8, bytes[1], 9, &pooled) == REFUSED_MISMATCH, "16 before 4");
     check(second_pool(&other_n, &good, bytes[0], 4, bytes[1], 4, &pooled) == REFUSED_MISMATCH, "another n");
+    check(second_pool(&good, &other_pack, bytes[0], 9, bytes[1], 9, &pooled) == REFUSED_MISMATCH, "another pack");
+    check(second_pool(&other_pack, &good, bytes[0], 8, bytes[1], 8, &pooled) == REFUSED_MISMATCH, "also before 4");
+    check(second_pool(&none, &other_pack, bytes[0], 9, bytes[1], 9, &pooled) == REFUSED_RECEIVER, "14 before both");
     check(second_pool(&good, &good, bytes[0], 8, bytes[1], 9, &pooled) == REFUSED_LENGTH, "the first buffer");
     check(second_pool(&good, &good, bytes[0], 9, bytes[1], 4, &pooled) == REFUSED_LENGTH, "the second buffer");
     check(memcmp(&pooled, &nothing, sizeof pooled) == 0, "what is refused is all zeros");
@@ -607,6 +642,7 @@ static void receiver_groups(void)
     revived_group(8, 2);
     receiver_figures_group();
     idle_figures_group();
+    pack_figures_group();
     pool_figures_group();
     pool_refusals_group();
 }
