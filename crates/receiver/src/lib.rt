@@ -1,4 +1,4 @@
-// The receiver: the reduced rows of all rows taken so far, and the settings.
+// The receiver: the reduced rows of all rows taken so far, the settings, and the pack that it belongs to.
 ghost use mathlib.Core.Path.{_≡_};
 ghost use mathlib.Core.Bool.{false};
 ghost use Prim.Native.Nat.{ℕ};
