@@ -4,8 +4,8 @@
 --   zeroRow n          == the row of n zeros
 --   TakenBy r o t      == t is what Take hands back for a receiver and what is offered: by value, or lent, with the receiver that it leaves
 --   Answered s rows r o t == t's answer and receiver, where r accepted the rows before: 17 exactly for what is offered for another pack. Of
---                         what is offered for its own, "raised" exactly for a row outside the span of the rows, "held" exactly for one in it
---                         that isn't zero, "idle" exactly for the zero row; 4 for another length than n, and else 6 for what is no row.
+--                         what is offered for its own, "raised" exactly for a row outside the span of the rows, "held" exactly for one in
+--                         it that isn't zero, "idle" exactly for the zero row; 4 for another length than n, and else 6 for what is no row.
 --                         "raised" the dimension grows by one, and otherwise the whole receiver is the one given
 --   WithIdle n cs ds   == the list of calls ds is cs with rows of n zeros put in anywhere, in any number, for any pack, by either Take
 -- Assumes nothing.

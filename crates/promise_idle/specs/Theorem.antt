@@ -85,8 +85,8 @@ pub order-5 : (q n k own : ℕ) → settingsRefusal q n k ≡ 0 → let s = setu
     → ((t .answer ≡ Idle) ↔ ((pack ≡ own) × (row ≡ zeroRow n)))
     -- and "held" means a nonzero row already in the span.
     × ((t .answer ≡ Held) ↔ ((pack ≡ own) × (row ≡ zeroRow n → ⊥) × InSpan q n (accepted (begun s) cs) row))
-    -- (And "raised" a row that isn't. A row of another pack is refused 17, zeros too, and what is no row of n entries, each below q, is refused
-    -- as ever.)
+    -- (And "raised" a row that isn't. A row of another pack is refused 17, zeros too, and what is no row of n entries, each below q, is
+    -- refused as ever.)
     × ((t .answer ≡ Raised) ↔ ((pack ≡ own) × Row q n row × (InSpan q n (accepted (begun s) cs) row → ⊥)))
     × ((t .answer ≡ Refused 17) ↔ (pack ≡ own → ⊥))
     × (pack ≡ own → (length row ≡ n → ⊥) → t .answer ≡ Refused 4)
@@ -94,8 +94,8 @@ pub order-5 : (q n k own : ℕ) → settingsRefusal q n k ≡ 0 → let s = setu
     -- The receiver's content is untouched in both cases, (as a whole, and refused too; "raised" its dimension grows by one,)
     × ((t .answer ≡ Raised → ⊥) → t .receiver ≡ after (begun s) cs)
     × (t .answer ≡ Raised → (t .receiver) .dimension ≡ suc ((after (begun s) cs) .dimension)))
-    -- and mixtures that come out zero still never harm a record." (Zero rows put in anywhere, for any pack and by either Take, leave the same
-    -- receiver, and so the same Close, in whatever numbering; from any receiver on.)
+    -- and mixtures that come out zero still never harm a record." (Zero rows put in anywhere, for any pack and by either Take, leave the
+    -- same receiver, and so the same Close, in whatever numbering; from any receiver on.)
     × ((r : Receiver) → length (r .entries) ≡ 256 → (cs ds : List Call) → WithIdle n cs ds
     → (after r ds ≡ after r cs) × ((t : ℕ) → closeOf (after r ds) t ≡ closeOf (after r cs) t))
 order-5 q n k own settings = (

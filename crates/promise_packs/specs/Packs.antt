@@ -1,12 +1,12 @@
 -- The rows of several packs, offered to one receiver, and two receivers of different packs that are offered the same. Order 8: "In a full
--- rack the rows of two packs arrive by turns, and joined they give a lawful record of neither. A receiver gets a pack number, 0 to 65535, at
--- its start, and each row given to Take is offered with one .. In the promise about mixed rows, a row offered for another pack is one of
--- the refused."
+-- rack the rows of two packs arrive by turns, and joined they give a lawful record of neither. A receiver gets a pack number, 0 to 65535,
+-- at its start, and each row given to Take is offered with one .. In the promise about mixed rows, a row offered for another pack is one
+-- of the refused."
 --   repacked r pack == the receiver r with this pack number in it
 --   Turns xs ys zs  == zs is xs and ys, put together by turns in any way, each in its own sequence
---   InRack s os cs  == a receiver with the setup s, to which the calls cs offer os, the rows of several packs: it accepts those that fit, and
---                      so are offered for its own pack, and no others; and where these are Mixed from a drawn matrix, closing answers as
---                      demand 3 says
+--   InRack s os cs  == a receiver with the setup s, to which the calls cs offer os, the rows of several packs: it accepts those that fit,
+--                      and so are offered for its own pack, and no others; and where these are Mixed from a drawn matrix, closing answers
+--                      as demand 3 says
 -- Assumes nothing.
 use mathlib.Core.Path.{_≡_}
 use mathlib.Core.Bool.{true}

@@ -97,7 +97,8 @@ pub both-recovered : (s other : Setup) → setupRefusal s ≡ 0 → setupRefusal
     let E = drawing (other .q) (other .n) (other .k) u in
     (i j : ℕ) → i < D .count → j < E .count → (b c : List ℕ) → Buffer (s .n) (s .k) b → Buffer (other .n) (other .k) c
     → (os : List Offer)
-    → Turns (offers (s .pack) (rowsOf (s .n) (s .k) (D .leaves i b))) (offers (other .pack) (rowsOf (other .n) (other .k) (E .leaves j c))) os
+    → Turns (offers (s .pack) (rowsOf (s .n) (s .k) (D .leaves i b)))
+    (offers (other .pack) (rowsOf (other .n) (other .k) (E .leaves j c))) os
     → (cs ds : List Call) → offered cs ≡ os → offered ds ≡ os
     → (closeOf (after (begun s) cs) t ≡ Done (indexIn t i) (spaceOf (s .n) (s .k) (D .leaves i b)))
     × (closeOf (after (begun other) ds) u ≡ Done (indexIn u j) (spaceOf (other .n) (other .k) (E .leaves j c)))
@@ -126,9 +127,9 @@ pub order-8 :
     -- and it closes as before.)
     × ((r : Receiver) → length (r .entries) ≡ 256 → (pack : ℕ)
     → (Reachable (repacked r pack) ↔ Reachable r) × ((t : ℕ) → closeOf (repacked r pack) t ≡ closeOf r t))
-    -- each row given to Take is offered with one .. It refuses a row of another pack with 17, placed after 14 and before 4. (For any receiver,
-    -- whatever is offered, and Take in either form: 14 exactly for a receiver that Start and Take cannot leave, 17 exactly for another
-    -- pack's row on one that they can, and then 4 and 6. Refused, the receiver is as it was.)
+    -- each row given to Take is offered with one .. It refuses a row of another pack with 17, placed after 14 and before 4. (For any
+    -- receiver, whatever is offered, and Take in either form: 14 exactly for a receiver that Start and Take cannot leave, 17 exactly for
+    -- another pack's row on one that they can, and then 4 and 6. Refused, the receiver is as it was.)
     × ((r : Receiver) → length (r .entries) ≡ 256 → (pack : ℕ) (row : List ℕ) (t : Taken) → TakenBy r (offer pack row) t
     → ((takeNumber (t .answer) ≡ 14) ↔ (Reachable r → ⊥))
     × ((takeNumber (t .answer) ≡ 17) ↔ (Reachable r × (pack ≡ r .pack → ⊥)))
@@ -136,8 +137,8 @@ pub order-8 :
     × (Reachable r → pack ≡ r .pack → length row ≡ r .n → (Row (r .q) (r .n) row → ⊥) → t .answer ≡ Refused 6)
     × (Reachable r → pack ≡ r .pack → Row (r .q) (r .n) row → takeNumber (t .answer) ≡ 0)
     × ((takeNumber (t .answer) ≡ 0 → ⊥) → t .receiver ≡ r))
-    -- In a full rack the rows of two packs arrive by turns," (Let two receivers have different packs, each accepted settings of its own, and
-    -- let both be given one list of offers, by calls in either form and with any Close among them.)
+    -- In a full rack the rows of two packs arrive by turns," (Let two receivers have different packs, each accepted settings of its own,
+    -- and let both be given one list of offers, by calls in either form and with any Close among them.)
     × ((s other : Setup) → setupRefusal s ≡ 0 → setupRefusal other ≡ 0 → (s .pack ≡ other .pack → ⊥)
     → (os : List Offer) (cs ds : List Call) → offered cs ≡ os → offered ds ≡ os
     -- (Each accepts the rows that are offered for its own pack and fit, and no others: what one accepts the other refuses with 17.)
@@ -145,8 +146,8 @@ pub order-8 :
     × (accepted (begun other) ds ≡ fitting other os)
     × ((o : Offer) (t u : Taken) → TakenBy (after (begun s) cs) o t → TakenBy (after (begun other) ds) o u
     → (takeNumber (t .answer) ≡ 0 → u .answer ≡ Refused 17) × (takeNumber (u .answer) ≡ 0 → t .answer ≡ Refused 17))
-    -- "In the promise about mixed rows, a row offered for another pack is one of the refused." (Where the rows that fit are mixed from one drawn
-    -- matrix, each closes as demand 3 says, whatever came for the other.)
+    -- "In the promise about mixed rows, a row offered for another pack is one of the refused." (Where the rows that fit are mixed from one
+    -- drawn matrix, each closes as demand 3 says, whatever came for the other.)
     × ((t : ℕ) → isNumbering t ≡ true → let D = drawing (s .q) (s .n) (s .k) t in
     (i : ℕ) → i < D .count → (b : List ℕ) → length b ≡ s .k * s .n
     → All (Mixed (s .q) (s .n) (rowsOf (s .n) (s .k) (D .leaves i b))) (fitting s os)
@@ -161,7 +162,8 @@ pub order-8 :
     → let D = drawing (s .q) (s .n) (s .k) t in
     let E = drawing (other .q) (other .n) (other .k) u in
     (i j : ℕ) → i < D .count → j < E .count → (b c : List ℕ) → length b ≡ s .k * s .n → length c ≡ other .k * other .n
-    → Turns (offers (s .pack) (rowsOf (s .n) (s .k) (D .leaves i b))) (offers (other .pack) (rowsOf (other .n) (other .k) (E .leaves j c))) os
+    → Turns (offers (s .pack) (rowsOf (s .n) (s .k) (D .leaves i b)))
+    (offers (other .pack) (rowsOf (other .n) (other .k) (E .leaves j c))) os
     → (closeOf (after (begun s) cs) t ≡ Done (indexIn t i) (spaceOf (s .n) (s .k) (D .leaves i b)))
     × (closeOf (after (begun other) ds) u ≡ Done (indexIn u j) (spaceOf (other .n) (other .k) (E .leaves j c)))))
 unfolding startOf
@@ -193,6 +195,7 @@ order-8 = (
         x .2,
         x .0 .recovers,
         x .1 .recovers,
-        λ t u known knows i j h g b c l m turns. both-recovered s other settings others apart t u known knows i j h g b c l m os turns cs ds given both,
+        λ t u known knows i j h g b c l m turns.
+            both-recovered s other settings others apart t u known knows i j h g b c l m os turns cs ds given both,
       ),
 )

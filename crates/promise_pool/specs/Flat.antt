@@ -214,9 +214,10 @@ pub order-1-flat :
     × (poolJoint (p .answer) + poolCommon (p .answer) ≡ a .dimension + b .dimension)
     -- (The receiver may take rows, be closed and be pooled again.)
     × Reachable (p .receiver)))
-    -- (For accepted settings and any pack, and two lists of calls, each on a receiver of its own from a fresh Start: pooling them is done, and
-    -- the joint and the common space are those of the rows that the two accepted.)
-    × ((q n k pack : ℕ) → settingsRefusal q n k ≡ 0 → (cs ds : List Call) (joint common : List ℕ) → length joint ≡ n * n → length common ≡ n * n
+    -- (For accepted settings and any pack, and two lists of calls, each on a receiver of its own from a fresh Start: pooling them is done,
+    -- and the joint and the common space are those of the rows that the two accepted.)
+    × ((q n k pack : ℕ) → settingsRefusal q n k ≡ 0 → (cs ds : List Call) (joint common : List ℕ)
+    → length joint ≡ n * n → length common ≡ n * n
     → let s = setup q n k pack in
     let us = accepted (begun s) cs in
     let vs = accepted (begun s) ds in
@@ -243,8 +244,8 @@ pub order-1-flat :
     × (poolJoint (p .answer) < k → tells (closeOf (p .receiver) t) 8 0)
     × ((v : ℕ) → HasVector q n (us ++ vs) (poolJoint (p .answer)) v → tellsSpace (closeOf (p .receiver) t) (poolJoint (p .answer)) v)
     × ((v : ℕ) × HasVector q n (us ++ vs) (poolJoint (p .answer)) v)))
-    -- (For two packs, each with accepted settings of its own, "Pooling's 16 now also covers differing packs": after any two lists of calls it
-    -- is refused so, with a receiver of all zeros and dimensions 0, and leaves both buffers.)
+    -- (For two packs, each with accepted settings of its own, "Pooling's 16 now also covers differing packs": after any two lists of calls
+    -- it is refused so, with a receiver of all zeros and dimensions 0, and leaves both buffers.)
     × ((s other : Setup) → setupRefusal s ≡ 0 → setupRefusal other ≡ 0 → (s .pack ≡ other .pack → ⊥) → (cs ds : List Call)
     → (joint common : List ℕ)
     → let a = after (begun s) cs in

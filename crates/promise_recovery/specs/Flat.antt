@@ -65,7 +65,8 @@ pub demand-3-flat :
     -- Draw any one of them,
     × ((i : ℕ) → i < D .count → (b : List ℕ) → length b ≡ k * n
     -- and let rows be mixed from its rows over the field, in whatever way and sequence. Then for every list of Take and Close calls on one
-    -- receiver, refused ones included, from a fresh Start with these settings, (and any pack,) in which every row accepted is such a mixture:
+    -- receiver, refused ones included, from a fresh Start with these settings, (and any pack,) in which every row accepted is such a
+    -- mixture:
     → ((pack : ℕ) → let s = setup q n k pack in
     (cs : List Call) → All (Mixed q n (rowsOf n k (D .leaves i b))) (accepted (begun s) cs)
     -- (the accepted rows have a dimension, at most k, and an identifying vector;)

@@ -1,5 +1,6 @@
 -- What Start, Take and Close answer for every input, and the receiver that each hands back or leaves. Document 01:
---   Setup            == what a receiver is started with: the settings and, order 8, the pack number; setup q n k pack == those that Start gets
+--   Setup            == what a receiver is started with: the settings and, order 8, the pack number; setup q n k pack == those that Start
+--                       gets
 --   Offer            == what is offered to Take: a row, for a pack; offer pack row == the one that Take gets
 --   setupOf r        == what the receiver r was started with, by its fields
 --   setupRefusal s   == the refusal of the settings in s: 1, 2 or 3, or 0; any pack number is accepted

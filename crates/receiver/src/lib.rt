@@ -249,8 +249,8 @@ impl Receiver {
     }
 
     // Take: the receiver with the row taken in, and whether the dimension grew, the row was held already, or the row is zero and so idle.
-    // Refuses 14, 17 (the row is offered for another pack), 4 (the row is not n bytes), 6. Unless the dimension grew, the receiver is handed
-    // back unchanged.
+    // Refuses 14, 17 (the row is offered for another pack), 4 (the row is not n bytes), 6. Unless the dimension grew, the receiver is
+    // handed back unchanged.
     pub fn take(self, pack: u16, row: &[u8]) -> Taken
         ensures { λ r. ⌜ (r ≡ takeOf self (offer pack (now (row .entry)))) × TakeTells self (offer pack (now (row .entry))) r ⌝ }
     {

@@ -9,7 +9,8 @@ use Rattle.worked_examples.specs.Answer.{Example, _⇒_, lent, receiver,
 use Rattle.worked_examples.specs.Answer.{count, draw, drawBatch, number, convert, reduce, receive, receiveC}
 use Rattle.worked_examples.specs.Answer.{start, takeValue, takeLent, close, pool, list, listable, write}
 
--- receivers of the pack 258, of 2,3,2: that hold no row, the row 110, the rows 101/011, and all three unit rows; one of 2,3,1 that holds 010
+-- receivers of the pack 258, of 2,3,2: that hold no row, the row 110, the rows 101/011, and all three unit rows; one of 2,3,1 that holds
+-- 010
 abbrev noRows : Receiver
 noRows = receiver 2 3 2 258 0 []
 
@@ -25,8 +26,8 @@ threeRows = receiver 2 3 2 258 3 (1 ∷ 0 ∷ 0 ∷ 0 ∷ 1 ∷ 0 ∷ 0 ∷ 0 �
 abbrev middle : Receiver
 middle = receiver 2 3 1 258 1 (0 ∷ 1 ∷ 0 ∷ [])
 
--- receivers of 2,3,2 that hold 100/010, and 010/001; of 3,2,1 that hold 12, and 10; like the first, but for q, for n and for k; and like the
--- second, but for the high byte of the pack, and for the low one
+-- receivers of 2,3,2 that hold 100/010, and 010/001; of 3,2,1 that hold 12, and 10; like the first, but for q, for n and for k; and like
+-- the second, but for the high byte of the pack, and for the low one
 abbrev leftPlane : Receiver
 leftPlane = receiver 2 3 2 258 2 (1 ∷ 0 ∷ 0 ∷ 0 ∷ 1 ∷ 0 ∷ [])
 
@@ -299,7 +300,8 @@ refusals =
     -- and where none applies: the index 928, least byte first, then the dimension and the vector
     ∷ (receiveC 2 6 3 1 3 paper (lent 11) ⇒ (0 ∷ (160 ∷ 3 ∷ 0 ∷ 0 ∷ 0 ∷ 0 ∷ 0 ∷ 0 ∷ 3 ∷ 22 ∷ 0 ∷ [])))
     -- Pool: the refusal number, the dimensions of the joint and of the common space, the receiver, of all zeros where it refuses, and both
-    -- buffers; 14 for the first receiver and for the second; 16 where q, n, k or the packs differ; 4 for the first buffer and for the second
+    -- buffers; 14 for the first receiver and for the second; 16 where q, n, k or the packs differ; 4 for the first buffer and for the
+    -- second
     ∷ (pool zeroRow rightPlane (lent 9) (lent 9) ⇒ (14 ∷ 0 ∷ 0 ∷ image zeros ++ (lent 9 ++ lent 9)))
     ∷ (pool leftPlane leftOver (lent 9) (lent 9) ⇒ (14 ∷ 0 ∷ 0 ∷ image zeros ++ (lent 9 ++ lent 9)))
     ∷ (pool leftPlane otherField (lent 9) (lent 9) ⇒ (16 ∷ 0 ∷ 0 ∷ image zeros ++ (lent 9 ++ lent 9)))

@@ -178,8 +178,8 @@ module _ {M : Type 1} (𝓤 : URA M) (H : Heap 𝓤) (A : Atoms 𝓤) (W : Given
       (ex 𝓤 (λ (y : Receiver). guard 𝓤 (Said y t) (A .res δ (T.the-row .coded .code y))))
   leaves b ν δ t = exE 𝓤 _ (λ ws.
       via 𝓤 (guard 𝓤 (Said (ws .0) t) (A .res δ (T.the-row .coded .code (ws .0))))
-      (qed W ((‵ (lasts take-lent.ended (ν ∷ [], (κ, tt)) (ref b δ, (pack, (s, tt))) ws) ⊛ raw (fact 𝓤 (Told t)) ⊛ raw (fact 𝓤 (Last (ws .0))))
-      ∷ []) ∵ split ! $ move ! (1 ∷ []) $ split ! $ heard ! (Told t) (λ told. heard ! (Last (ws .0)) (λ last.
+      (qed W ((‵ (lasts take-lent.ended (ν ∷ [], (κ, tt)) (ref b δ, (pack, (s, tt))) ws) ⊛ raw (fact 𝓤 (Told t))
+      ⊛ raw (fact 𝓤 (Last (ws .0)))) ∷ []) ∵ split ! $ move ! (1 ∷ []) $ split ! $ heard ! (Told t) (λ told. heard ! (Last (ws .0)) (λ last.
       check ! (told .0, told .1, last) $ fsplit ! $ move ! (1 ∷ []) $ drop ! $ done !)))
       (exI 𝓤 (λ (y : Receiver). guard 𝓤 (Said y t) (A .res δ (T.the-row .coded .code y))) (ws .0)))
 
@@ -217,13 +217,15 @@ module _ {M : Type 1} (𝓤 : URA M) (H : Heap 𝓤) (A : Atoms 𝓤) (W : Given
         pick ! (λ δ. split ! $
         -- [the reference; the lender's part; ν's token; _7; …; _6; …; _5; …; …; _3; …; _2; …; _1; …; room for _0; …; the row's token; what
         -- the receiver, the pack and the row own]
-        move ! (19 ∷ []) $ fsplit ! $ drop ! $ fsplit ! $ drop ! $ fsplit ! $ use1 W (‵ Own ⊛ ‵ Own) (shr-slice-copy 𝓤 H A W (named 0) κ u8 .twice s (v ∷ [])) $
-        split ! $ move ! (0 ∷ 2 ∷ []) $ fjoin ! $ owned ! u16 (Is u16) (uint-makes 𝓤 H A W w16) pack _ pack-is $ fjoin ! $ move ! (2 ∷ 0 ∷ []) $
-        fjoin ! $ move ! (3 ∷ 19 ∷ []) $ join ! $ use2 W (raw (Lent 𝓤 H A at-mem run .pre (to-lent l₄ ν δ))) (goes-lent l₄ ν δ) $
+        move ! (19 ∷ []) $ fsplit ! $ drop ! $ fsplit ! $ drop ! $ fsplit ! $
+        use1 W (‵ Own ⊛ ‵ Own) (shr-slice-copy 𝓤 H A W (named 0) κ u8 .twice s (v ∷ [])) $
+        split ! $ move ! (0 ∷ 2 ∷ []) $ fjoin ! $ owned ! u16 (Is u16) (uint-makes 𝓤 H A W w16) pack _ pack-is $ fjoin ! $
+        move ! (2 ∷ 0 ∷ []) $ fjoin ! $ move ! (3 ∷ 19 ∷ []) $ join ! $ use2 W (raw (Lent 𝓤 H A at-mem run .pre (to-lent l₄ ν δ))) (goes-lent l₄ ν δ) $
         calls-at ! fm (Lent 𝓤 H A at-mem run) known (to-lent l₄ ν δ) (and-then ! (load ! (from ! (stop !)) (look ! 5 refl))
         (and-then ! (load ! (from ! (stop !)) (look ! 12 refl)) (and-then ! (load ! (from ! (stop !)) (look ! 10 refl)) (no-more !)))) (λ u.
         use1 W (later (some (λ (t : TakeAnswer). ((‵ (flft (ν ∷ []) fullShare) ⊛ ‵ (flft κ q) ⊛ ‵ ftrue) ⊛ ‵ (S.the-row .own t (u ∷ [])))
-        ⊛ raw (ensured 𝓤 H A take-lent.ended (take-lent.clauses 𝓤 H A at-mem run) (ν ∷ [], (κ, tt)) (ref l₄ δ, (pack, (s, tt))) tt t)))) (id⊢ 𝓤 _) $
+        ⊛ raw (ensured 𝓤 H A take-lent.ended (take-lent.clauses 𝓤 H A at-mem run) (ν ∷ [], (κ, tt)) (ref l₄ δ, (pack, (s, tt))) tt t))))
+        (id⊢ 𝓤 _) $
         await ! tt $ pick ! (λ t.
         split ! $ move ! (1 ∷ []) $ use1 W (some (λ (y : Receiver). given (Said y t) (‵ (fres δ (T.the-row .coded .code y)))))
         (leaves l₄ ν δ t) $ pick ! (λ y. learn ! (λ said. move ! (1 ∷ []) $ split ! $ move ! (1 ∷ []) $
@@ -244,8 +246,8 @@ module _ {M : Type 1} (𝓤 : URA M) (H : Heap 𝓤) (A : Atoms 𝓤) (W : Given
         (both-is y t (u ∷ []) y-is is) .0)) $
         returns ! (look ! 16 refl) $ forget ! 0 refl $ forget ! 3 refl $ forget ! 5 refl $ forget ! 7 refl $ forget ! 10 refl $
         forget ! 12 refl $ forget ! 14 refl $ forget ! 16 refl $
-        move ! (16 ∷ 17 ∷ []) $ free1 ! $ move ! (14 ∷ 15 ∷ []) $ free1 ! $ move ! (12 ∷ 13 ∷ []) $ free1 ! $ move ! (10 ∷ 11 ∷ []) $ free1 ! $ move ! (0 ∷ 9 ∷ []) $
-        free1 ! $ move ! (6 ∷ 7 ∷ []) $ free1 ! $ move ! (4 ∷ 5 ∷ []) $ free1 ! $ move ! (2 ∷ 3 ∷ []) $ free1 ! $ free0 ! $
+        move ! (16 ∷ 17 ∷ []) $ free1 ! $ move ! (14 ∷ 15 ∷ []) $ free1 ! $ move ! (12 ∷ 13 ∷ []) $ free1 ! $ move ! (10 ∷ 11 ∷ []) $ free1 ! $
+        move ! (0 ∷ 9 ∷ []) $ free1 ! $ move ! (6 ∷ 7 ∷ []) $ free1 ! $ move ! (4 ∷ 5 ∷ []) $ free1 ! $ move ! (2 ∷ 3 ∷ []) $ free1 ! $ free0 ! $
         by ! (exits (takenAs y t) (both-is y t (u ∷ []) y-is is) was pack-is said)))))))))))))))))
 
 module _ {M : Type 1} (𝓤 : URA M) (H : Heap 𝓤) (A : Atoms 𝓤) (W : Given 𝓤 H A) (at-mem : Memory → SProp 𝓤) (run : Routine → Fun 𝓤) where

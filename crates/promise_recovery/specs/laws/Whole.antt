@@ -1,8 +1,8 @@
 -- Against emptiness of demand 3: the drawn rows themselves always give the index back. No part of the meaning.
 --   Among x xs           == x is one of xs
 --   drawn-rows-recovered == a list of calls that offers each drawn row at least once for the receiver's pack, in any order and by either
---                           Take, and beside these only rows that are refused, and closes: closing after it gives the index, and the matrix's
---                           own vector
+--                           Take, and beside these only rows that are refused, and closes: closing after it gives the index, and the
+--                           matrix's own vector
 --   takeAll os           == what is offered, taken by value, one after the other
 --   drawn-rows-taken     == so taking the drawn rows from the top and closing gives the index
 --   drawn-bytes-received == and so does Receive of the drawn bytes

@@ -49,7 +49,8 @@ taken-in-requires c κs =
     let t = c .before .before .before in
     let r = t .before .before .args .self in
     let known = ap (λ x. pick x (identifying (r .n) (r .dimension) (used r)) 0) (granted .formed) in
-    (subst (λ pack. TakeAccepted r (offer pack (t .before .before .args .row .now))) (granted .own) granted, sym (zero (c .before)) ∙ c .if2 .left, t .take-refusal .ensures .1 ∙ known)
+    let own = subst (λ pack. TakeAccepted r (offer pack (t .before .before .args .row .now))) (granted .own) granted in
+    (own, sym (zero (c .before)) ∙ c .if2 .left, t .take-refusal .ensures .1 ∙ known)
 
 returns-3 : tie.Need-returns-3
 unfolding takeOf takenIn
