@@ -18,7 +18,7 @@ use Rattle.numbering.specs.Numbering.{isNumbering, indexIn}
 use Rattle.drawing.specs.Drawing.{drawing}
 use Rattle.reduce.specs.Reduce.{spaceOf}
 use Rattle.receive.specs.declared.Received.the-variants.{Done}
-use Rattle.receiver.specs.Receiver.{Setup, Offer, offer, setupRefusal, noSetup, empty, startOf, wellFormed, takeRefusal, takeNumber}
+use Rattle.receiver.specs.Receiver.{Setup, Offer, setup, offer, setupRefusal, empty, startOf, wellFormed, takeRefusal, takeNumber}
 use Rattle.receiver.specs.Receiver.{closeRefusal, closeOf}
 use Rattle.receiver.specs.laws.TakeAccepted.{take-accepted, take-long, take-large, take-row}
 use Rattle.receiver.specs.declared.Receiver.{Receiver}
@@ -122,7 +122,7 @@ pub order-8 :
     -- "A receiver gets a pack number, 0 to 65535, at its start, (which it keeps through every list of calls,)
     ((s : Setup) → setupRefusal s ≡ 0 → (cs : List Call) → (after (begun s) cs) .pack ≡ s .pack)
     -- a refused start has pack number 0. (All of it is zero.)
-    × ((s : Setup) → (setupRefusal s ≡ 0 → ⊥) → begun s ≡ empty noSetup)
+    × ((s : Setup) → (setupRefusal s ≡ 0 → ⊥) → begun s ≡ empty (setup 0 0 0 0))
     -- Any pack number is valid in a receiver. (With another in it, it is one that Start and Take can leave exactly where it was so before,
     -- and it closes as before.)
     × ((r : Receiver) → length (r .entries) ≡ 256 → (pack : ℕ)

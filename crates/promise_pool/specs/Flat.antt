@@ -20,7 +20,7 @@ use Rattle.numbering.specs.Numbering.{isNumbering, indexIn}
 use Rattle.drawing.specs.Drawing.{drawing}
 use Rattle.spaces.specs.Spaces.{JointSpace, CommonSpace, jointOf, jointDimension}
 use Rattle.receive.specs.declared.Received.the-variants.{Done}
-use Rattle.receiver.specs.Receiver.{Setup, setup, setupOf, setupRefusal, noSetup, empty, used, heldRows, holding, closeOf}
+use Rattle.receiver.specs.Receiver.{Setup, setup, setupOf, setupRefusal, empty, used, heldRows, holding, closeOf}
 use Rattle.receiver.specs.laws.Sound.{sound}
 use Rattle.receiver.specs.laws.Held.{settings-laws, holding-rows, holding-size, holding-used}
 use Rattle.receiver.specs.declared.Receiver.{Receiver}
@@ -199,7 +199,7 @@ pub order-1-flat :
     → (length joint ≡ a .n * a .n) × (length common ≡ a .n * a .n) → poolNumber (p .answer) ≡ 0)
     -- A refusal gives a receiver of all zeros and dimensions 0. (Both buffers are as they were.)
     × ((poolNumber (p .answer) ≡ 0 → ⊥)
-    → (p .receiver ≡ empty noSetup) × (poolJoint (p .answer) ≡ 0) × (poolCommon (p .answer) ≡ 0) × (left ≡ joint) × (shared ≡ common))
+    → (p .receiver ≡ empty (setup 0 0 0 0)) × (poolJoint (p .answer) ≡ 0) × (poolCommon (p .answer) ≡ 0) × (left ≡ joint) × (shared ≡ common))
     × (poolNumber (p .answer) ≡ 0
     -- It .. writes two reduced matrices into lent n×n buffers: that of the smallest space containing both,
     -- Pooling also hands back a receiver with the same settings (and the packs' common number) that holds the smallest space.
@@ -252,7 +252,7 @@ pub order-1-flat :
     let b = after (begun other) ds in
     let p = poolOf a b (length joint) (length common) in
     (poolNumber (p .answer) ≡ 16)
-    × (p .receiver ≡ empty noSetup)
+    × (p .receiver ≡ empty (setup 0 0 0 0))
     × (poolJoint (p .answer) ≡ 0)
     × (poolCommon (p .answer) ≡ 0)
     × (jointBuffer a b joint (length common) ≡ joint)
