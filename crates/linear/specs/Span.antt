@@ -1,6 +1,8 @@
 -- Linear combinations and spans. Document 01: "A mixture of a list of rows is their sum, entry by entry, each row first multiplied by a
 -- number below q of its own, in the field's arithmetic. Of no rows it is the zero row. All mixtures of a list are its span, the space of
 -- the list. The dimension of a list is the number of rows, none to n, of the one reduced matrix with the same span."
+--   All P xs              == every element of the list xs has the property P
+--   Among x xs            == x is one of xs, once or more often, at whatever place
 --   Row q n v             == v is a row: n entries, each below q
 --   combination q n cs rs == the linear combination of the rows rs with the coefficients cs; document 01's "mixture"
 --   InSpan q n rs v       == v is a linear combination of the rows rs
@@ -19,10 +21,13 @@ use Rattle.basics.specs.Table.{tabulate}
 use Rattle.field.specs.Field.{add, multiply}
 use Rattle.matrix.specs.Matrix.{Reduced, identifying}
 
--- every element of a list has the property
 pub data All {A : Type 0} (P : A → Type 0) : List A → Type 0 where
   none : All P []
   more : {x : A} {xs : List A} → P x → All P xs → All P (x ∷ xs)
+
+pub data Among {A : Type 0} (x : A) : List A → Type 0 where
+  first : {xs : List A} → Among x (x ∷ xs)
+  later : {y : A} {xs : List A} → Among x xs → Among x (y ∷ xs)
 
 abbrev pub Row : ℕ → ℕ → List ℕ → Type 0
 Row q n v = (length v ≡ n) × All (λ a. a < q) v

@@ -12,8 +12,8 @@ use Prim.Native.Nat.{ℕ, _*_, _<_}
 use native.Mathlib.Omega.{arith}
 use lib.ListN.{length}
 use Rattle.refusal.specs.laws.First.{kept}
-use Rattle.linear.specs.Span.{All, Row, Mixed, rowsOf}
-use Rattle.linear.specs.laws.Every.{all-map}
+use Rattle.linear.specs.Span.{All, Among, Row, Mixed, rowsOf}
+use Rattle.linear.specs.laws.Every.{all-map, each-among}
 use Rattle.numbering.specs.Numbering.{isNumbering, indexIn}
 use Rattle.drawing.specs.Drawing.{drawing}
 use Rattle.reduce.specs.Reduce.{spaceOf}
@@ -29,7 +29,7 @@ use Rattle.promise_recovery.specs.Demand.{Buffer, Recovery}
 use Rattle.promise_recovery.specs.Theorem.{demand-3}
 use Rattle.promise_recovery.specs.laws.After.{after-pack, accepted-fits}
 use Rattle.promise_recovery.specs.laws.Reachable.{reachable-size, after-reachable, reachable-exactly-well-formed, formed}
-use Rattle.promise_recovery.specs.laws.Whole.{Among, all-offers, among-offers, each-among, drawn-rows-recovered}
+use Rattle.promise_recovery.specs.laws.Whole.{all-offers, among-offers, drawn-rows-recovered}
 use Rattle.promise_idle.specs.Idle.{TakenBy}
 use Rattle.promise_packs.specs.Packs.{repacked, Turns, InRack}
 use Rattle.promise_packs.specs.laws.Turns.{turns-swap, turns-all, turns-among, offers-foreign}

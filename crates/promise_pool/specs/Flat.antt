@@ -15,14 +15,14 @@ use Rattle.settings.specs.Settings.{settingsRefusal}
 use Rattle.linear.specs.Span.{All, Row, Mixed, SameSpan, HasDimension, HasVector, rowsOf}
 use Rattle.linear.specs.Eliminate.{dimension}
 use Rattle.linear.specs.laws.Every.{all-append}
-use Rattle.linear.specs.laws.ReducedOf.{reducedRows-span, dimension-has, vector-has}
+use Rattle.linear.specs.laws.ReducedOf.{dimension-has, vector-has}
 use Rattle.numbering.specs.Numbering.{isNumbering, indexIn}
 use Rattle.drawing.specs.Drawing.{drawing}
 use Rattle.spaces.specs.Spaces.{JointSpace, CommonSpace, jointOf, jointDimension}
 use Rattle.receive.specs.declared.Received.the-variants.{Done}
 use Rattle.receiver.specs.Receiver.{Setup, setup, setupOf, setupRefusal, empty, used, heldRows, holding, closeOf}
 use Rattle.receiver.specs.laws.Sound.{sound}
-use Rattle.receiver.specs.laws.Held.{settings-laws, holding-rows, holding-size, holding-used}
+use Rattle.receiver.specs.laws.Held.{settings-laws, holding-size, holding-used, holding-span}
 use Rattle.receiver.specs.declared.Receiver.{Receiver}
 use Rattle.promise_recovery.specs.Calls.{Call, begun, after, accepted, Reachable}
 use Rattle.promise_recovery.specs.Flat.{tells, tellsSpace}
@@ -116,10 +116,6 @@ module _ (s : Setup) (settings : setupRefusal s ≡ 0) where
   abbrev law : Laws q
   law = settings-laws q n k settings
 
-  held-span : (rows : List (List ℕ)) → All (Row q n) rows → SameSpan q n (heldRows (holding s rows)) rows
-  held-span rows h =
-      subst (λ x. SameSpan q n x rows) (sym (holding-rows s settings rows h)) (reducedRows-span q law n rows h)
-
   holding-spaces : (us vs : List (List ℕ)) → All (Row q n) us → All (Row q n) vs → (joint common : List ℕ)
       → length joint ≡ n * n → length common ≡ n * n
       → Spaces q n us vs joint common (length joint) (length common) (holding s us) (holding s vs)
@@ -129,8 +125,8 @@ module _ (s : Setup) (settings : setupRefusal s ≡ 0) where
       let b = holding s vs in
       let z : poolRefusal a b (length joint) (length common) ≡ 0 = rw (lj, lc) (pool-none s settings us vs hu hv) in
       let x = spaces a b (holding-size s settings us hu) (holding-size s settings vs hv) joint common z in
-      let su = held-span us hu in
-      let sv = held-span vs hv in (
+      let su = holding-span s settings us hu in
+      let sv = holding-span s settings vs hv in (
         joint-carried q n (heldRows a) (heldRows b) us vs su sv _ _ (x .1),
         (x .3 .0, x .3 .1, common-carried q n (heldRows a) (heldRows b) us vs su sv _ _ (x .3 .2)),
         x .2,

@@ -1,4 +1,4 @@
--- Every element of a list has a property: how to make and use such a fact; no part of the meaning.
+-- Every element of a list has a property, or is one of a list: how to make and use such a fact; no part of the meaning.
 --   all-map     == a property that follows from another
 --   all-both    == a property that follows from two others
 --   all-head, all-tail == of the first element, and of the others
@@ -6,12 +6,17 @@
 --   all-of      == from the elements at all places
 --   all-append  == of two lists, one after the other
 --   all-take, all-drop == of a list's first elements, and of the others
+--   all-among   == of whatever is one of the list
+--   among-all   == from whatever is one of the list
+--   each-among  == every element of a list is one of it
+--   among-append, among-either == what is one of two lists, one after the other
 -- Assumes nothing.
 use mathlib.Core.List.{List, [], _∷_, _++_}
+use mathlib.Core.Logic.{_⊎_, inl, inr}
 use Prim.Native.Nat.{ℕ, zero, suc, _<_, suc-le-suc}
 use native.Mathlib.Nat.{zero-lt-suc, le-of-suc-le-suc, not-suc-le-zero}
 use lib.ListN.{length, getD, take, drop}
-use Rattle.linear.specs.Span.{All, none, more}
+use Rattle.linear.specs.Span.{All, none, more, Among, first, later}
 
 module _ {A : Type 0} where
   pub all-map : {P Q : A → Type 0} {xs : List A} → ((x : A) → P x → Q x) → All P xs → All Q xs
@@ -50,3 +55,29 @@ module _ {A : Type 0} where
   all-drop zero ps = ps
   all-drop (suc n) none = none
   all-drop (suc n) (more p ps) = all-drop n ps
+
+  pub all-among : {P : A → Type 0} {x : A} {xs : List A} → All P xs → Among x xs → P x
+  all-among (more p ps) first = p
+  all-among (more p ps) (later a) = all-among ps a
+
+  pub among-all : {P : A → Type 0} (xs : List A) → ((x : A) → Among x xs → P x) → All P xs
+  among-all [] h = none
+  among-all (x ∷ xs) h = more (h x first) (among-all xs (λ y a. h y (later a)))
+
+  pub each-among : (xs : List A) → All (λ x. Among x xs) xs
+  each-among xs = among-all xs (λ x a. a)
+
+  pub among-append : {x : A} (xs ys : List A) → Among x xs ⊎ Among x ys → Among x (xs ++ ys)
+  among-append (y ∷ xs) ys (inl first) = first
+  among-append (y ∷ xs) ys (inl (later a)) = later (among-append xs ys (inl a))
+  among-append [] ys (inr a) = a
+  among-append (y ∷ xs) ys (inr a) = later (among-append xs ys (inr a))
+
+  pub among-either : {x : A} (xs ys : List A) → Among x (xs ++ ys) → Among x xs ⊎ Among x ys
+  among-either [] ys a = inr a
+  among-either (y ∷ xs) ys first = inl first
+  among-either (y ∷ xs) ys (later a) = still (among-either xs ys a)
+    where
+      still : {x : A} → Among x xs ⊎ Among x ys → Among x (y ∷ xs) ⊎ Among x ys
+      still (inl a) = inl (later a)
+      still (inr a) = inr a

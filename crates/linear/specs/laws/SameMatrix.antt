@@ -1,20 +1,18 @@
 -- What the reduced matrix of a list of rows depends on: the span alone.
 --   matrix-same          == lists with the same span have the same dimension and reduced matrix
---   reducedOf-rearranged == so order and repeats do not matter: two lists, each row of which stands somewhere in the other
 --   reducedRows-again    == reduced rows are their own reduced rows
 --   within-dimension     == rows in the span of a reduced matrix of k rows have at most dimension k, and k only where it is their matrix
 -- Assumes nothing.
-use mathlib.Core.Path.{_≡_, ap₂, sym, _∙_, subst}
-use mathlib.Core.List.{List, []}
+use mathlib.Core.Path.{_≡_, ap₂, sym, _∙_}
+use mathlib.Core.List.{List}
 use mathlib.Core.Logic.{Iff·rfl}
-use Prim.Native.Nat.{ℕ, _≤_, _<_}
-use lib.ListN.{length, getD}
+use Prim.Native.Nat.{ℕ, _≤_}
+use lib.ListN.{length}
 use Rattle.field.specs.FieldLaws.{Laws}
 use Rattle.matrix.specs.Matrix.{Reduced}
 use Rattle.linear.specs.Span.{All, Row, InSpan, SameSpan, rowsOf}
 use Rattle.linear.specs.Eliminate.{join, reducedRows, reducedOf, dimension}
-use Rattle.linear.specs.laws.Every.{all-at, all-of}
-use Rattle.linear.specs.laws.Mixture.{span-each, span-same, span-through}
+use Rattle.linear.specs.laws.Mixture.{span-through}
 use Rattle.linear.specs.laws.FlatMatrix.{rows-join}
 use Rattle.linear.specs.laws.ReducedRows.{reduced-rows, rows-sized}
 use Rattle.linear.specs.laws.Unique.{reduced-within}
@@ -27,18 +25,6 @@ module _ (q : ℕ) (laws : Laws q) (n : ℕ) where
   matrix-same rows others h g s =
       reducedOf-unique q laws n others g (dimension q n rows) (reducedOf q n rows) (reducedOf-reduced q laws n rows h)
       (λ v. (λ x. s v .0 (reducedOf-span q laws n rows h v .0 x), λ x. reducedOf-span q laws n rows h v .1 (s v .1 x)))
-
-  stands-in : (rows others : List (List ℕ)) → All (Row q n) others
-      → ((i : ℕ) → i < length rows → (j : ℕ) × (j < length others) × (getD others j [] ≡ getD rows i [])) → All (InSpan q n others) rows
-  stands-in rows others g f =
-      all-of [] rows (λ i l. subst (InSpan q n others) (f i l .2) (all-at (span-each q laws n others g) [] (f i l .0) (f i l .1)))
-
-  pub reducedOf-rearranged : (rows others : List (List ℕ)) → All (Row q n) rows → All (Row q n) others
-      → ((i : ℕ) → i < length rows → (j : ℕ) × (j < length others) × (getD others j [] ≡ getD rows i []))
-      → ((j : ℕ) → j < length others → (i : ℕ) × (i < length rows) × (getD rows i [] ≡ getD others j []))
-      → reducedOf q n rows ≡ reducedOf q n others
-  reducedOf-rearranged rows others h g there back =
-      matrix-same rows others h g (span-same q laws n rows others h g (stands-in rows others g there) (stands-in others rows h back)) .1
 
   pub reducedRows-again : (rs : List (List ℕ)) → All (Row q n) rs → Reduced q n (length rs) (join rs) → reducedRows q n rs ≡ rs
   unfolding SameSpan

@@ -7,10 +7,9 @@
 use mathlib.Core.Path.{_≡_}
 use mathlib.Core.List.{List, [], _∷_}
 use Prim.Native.Nat.{ℕ}
-use Rattle.linear.specs.Span.{All, none, more}
+use Rattle.linear.specs.Span.{All, none, more, Among, first as here, later}
 use Rattle.receiver.specs.Receiver.{Offer}
 use Rattle.promise_recovery.specs.Calls.{offers}
-use Rattle.promise_recovery.specs.laws.Whole.{Among, first as here, later}
 use Rattle.promise_packs.specs.Packs.{Turns, none as nothing, first, second}
 
 pub turns-swap : {A : Type 0} {xs ys zs : List A} → Turns xs ys zs → Turns ys xs zs

@@ -1,5 +1,4 @@
 -- Receivers that hold rows, pooled; no part of the meaning.
---   holding-same    == rows with the same span are held alike
 --   pool-holding    == pooling what holds us and what holds vs, unrefused, hands back what holds both
 -- Assumes nothing.
 use mathlib.Core.Path.{_≡_, refl, ap, ap₂, sym, _∙_}
@@ -13,12 +12,10 @@ use Rattle.linear.specs.Eliminate.{reducedRows}
 use Rattle.linear.specs.laws.Every.{all-append}
 use Rattle.linear.specs.laws.Mixture.{span-same}
 use Rattle.linear.specs.laws.ReducedOf.{reducedRows-kept, reducedRows-span}
-use Rattle.linear.specs.laws.SameMatrix.{matrix-same}
-use Rattle.reduction.specs.Padded.{padded}
 use Rattle.spaces.specs.Spaces.{Within}
 use Rattle.spaces.specs.laws.Joint.{within-each, first-within, last-within}
-use Rattle.receiver.specs.Receiver.{Setup, setupRefusal, made, holding}
-use Rattle.receiver.specs.laws.Held.{settings-laws, holding-rows}
+use Rattle.receiver.specs.Receiver.{Setup, setupRefusal, holding}
+use Rattle.receiver.specs.laws.Held.{settings-laws, holding-rows, holding-exactly}
 use Rattle.promise_recovery.specs.laws.HoldRows.{well-formed-holding}
 use Rattle.pool.specs.Pool.{alike, poolRefusal, pooled, poolOf}
 use Rattle.pool.specs.declared.Pooled.{Pooled}
@@ -33,13 +30,6 @@ module _ (s : Setup) (settings : setupRefusal s ≡ 0) where
 
   law : Laws q
   law = settings-laws q n (s .k) settings
-
-  pub holding-same : (rows others : List (List ℕ)) → All (Row q n) rows → All (Row q n) others → SameSpan q n rows others
-      → holding s rows ≡ holding s others
-  unfolding holding
-  holding-same rows others h g same =
-      let e = matrix-same q law n rows others h g same in
-      ap₂ (λ (m : List ℕ) (d : ℕ). made s d (padded 256 m)) (e .1) (e .0)
 
   module _ (us vs : List (List ℕ)) (hu : All (Row q n) us) (hv : All (Row q n) vs) where
     -- the reduced rows of both lists together span what both lists do
@@ -80,5 +70,5 @@ module _ (s : Setup) (settings : setupRefusal s ≡ 0) where
     pool-holding =
         ap (λ (p : Pooled). p .receiver) (sym (done _ _ _ pool-none))
         ∙ ap₂ (λ x y. holding s (x ++ y)) (holding-rows s settings us hu) (holding-rows s settings vs hv)
-        ∙ holding-same (reducedRows q n us ++ reducedRows q n vs) (us ++ vs)
-        (all-append (reducedRows-kept q law n us hu .rows) (reducedRows-kept q law n vs hv .rows)) (all-append hu hv) reduced-both
+        ∙ holding-exactly s settings (reducedRows q n us ++ reducedRows q n vs) (us ++ vs)
+        (all-append (reducedRows-kept q law n us hu .rows) (reducedRows-kept q law n vs hv .rows)) (all-append hu hv) .1 reduced-both

@@ -5,14 +5,14 @@
 --   accepted-rows  == accepted rows are rows
 --   unforged       == no call is refused 14
 --   after-dimension == the receiver tells the dimension of the accepted rows
---   after-pack     == it belongs to the pack of the Start
+--   after-setup    == it has the setup of the Start; after-pack == so it belongs to that pack
 -- Assumes nothing.
 use mathlib.Core.Path.{_≡_, ap, sym, _∙_, subst}
 use mathlib.Core.List.{List, []}
 use Rattle.refusal.specs.laws.First.{done}
 use Rattle.linear.specs.Span.{All, none, Row, HasDimension}
 use Rattle.linear.specs.laws.ReducedOf.{dimension-has}
-use Rattle.receiver.specs.Receiver.{Setup, setupRefusal, startOf, holding}
+use Rattle.receiver.specs.Receiver.{Setup, setupOf, setupRefusal, startOf, holding}
 use Rattle.receiver.specs.laws.Held.{settings-laws, holding-none}
 use Rattle.promise_recovery.specs.Calls.{Call, begun, after, accepted, Unforged, offered, fitting}
 use Rattle.promise_recovery.specs.laws.FittingRows.{fitting-rows}
@@ -39,9 +39,12 @@ module _ (s : Setup) (settings : setupRefusal s ≡ 0) where
     pub unforged : Unforged (begun s) cs
     unforged = subst (λ r. Unforged r cs) (sym begun-holds) (whole .unforged)
 
-    pub after-pack : (after (begun s) cs) .pack ≡ s .pack
+    pub after-setup : setupOf (after (begun s) cs) ≡ s
     unfolding holding
-    after-pack = ap (λ r. r .pack) after-holds
+    after-setup = ap setupOf after-holds
+
+    pub after-pack : (after (begun s) cs) .pack ≡ s .pack
+    after-pack = ap (λ x. x .pack) after-setup
 
     pub after-dimension : HasDimension (s .q) (s .n) (accepted (begun s) cs) ((after (begun s) cs) .dimension)
     unfolding holding

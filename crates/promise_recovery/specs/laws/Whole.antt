@@ -1,5 +1,4 @@
 -- Against emptiness of demand 3: the drawn rows themselves always give the index back. No part of the meaning.
---   Among x xs           == x is one of xs
 --   drawn-rows-recovered == a list of calls that offers each drawn row at least once for the receiver's pack, in any order and by either
 --                           Take, and beside these only rows that are refused, and closes: closing after it gives the index, and the
 --                           matrix's own vector
@@ -20,8 +19,8 @@ use Rattle.counts.specs.Gaussian.{gaussian}
 use Rattle.settings.specs.Settings.{settingsRefusal}
 use Rattle.settings.specs.laws.Accepted.{accepted as settings-accepted}
 use Rattle.matrix.specs.Matrix.{Reduced}
-use Rattle.linear.specs.Span.{All, none, more, Row, InSpan, SameSpan, rowsOf, HasVector}
-use Rattle.linear.specs.laws.Every.{all-map, all-both}
+use Rattle.linear.specs.Span.{All, none, more, Among, first, later, Row, InSpan, SameSpan, rowsOf, HasVector}
+use Rattle.linear.specs.laws.Every.{all-map, all-both, all-among, each-among}
 use Rattle.linear.specs.laws.Mixture.{span-each, span-same, mixed-in-span}
 use Rattle.linear.specs.laws.FlatMatrix.{rows-length, join-rows}
 use Rattle.linear.specs.laws.ReducedRows.{reduced-rows}
@@ -37,18 +36,6 @@ use Rattle.promise_recovery.specs.Demand.{Buffer}
 use Rattle.promise_recovery.specs.laws.FittingRows.{fits-own, fits-row, own-fits}
 use Rattle.promise_recovery.specs.laws.After.{accepted-fits, accepted-rows}
 use Rattle.promise_recovery.specs.Theorem.{demand-3}
-
-pub data Among {A : Type 0} (x : A) : List A → Type 0 where
-  first : {xs : List A} → Among x (x ∷ xs)
-  later : {y : A} {xs : List A} → Among x xs → Among x (y ∷ xs)
-
-among-all : {A : Type 0} {P : A → Type 0} {x : A} {xs : List A} → All P xs → Among x xs → P x
-among-all (more p ps) first = p
-among-all (more p ps) (later a) = among-all ps a
-
-pub each-among : {A : Type 0} (xs : List A) → All (λ x. Among x xs) xs
-each-among [] = none
-each-among (x ∷ xs) = more first (all-map (λ y a. later a) (each-among xs))
 
 -- a row that is offered and fits stands among the fitting ones
 among-fitting : (s : Setup) {o : Offer} → o .pack ≡ s .pack → Row (s .q) (s .n) (o .row) → {os : List Offer} → Among o os
@@ -125,14 +112,14 @@ module _ (q n k t : ℕ) (settings : settingsRefusal q n k ≡ 0) (known : isNum
       where
         inside : All (InSpan q n drawnRows) (accepted (begun s) cs)
         inside =
-            all-map (λ v a. among-all (span-each q law n drawnRows valid) a)
+            all-map (λ v a. all-among (span-each q law n drawnRows valid) a)
             (subst (All (λ row. Among row drawnRows)) (sym (accepted-fits s settings cs)) (fitting-all s only))
 
         outside : All (InSpan q n (accepted (begun s) cs)) drawnRows
         outside =
             all-both
             (λ v r a.
-            among-all (span-each q law n (accepted (begun s) cs) (accepted-rows s settings cs))
+            all-among (span-each q law n (accepted (begun s) cs) (accepted-rows s settings cs))
             (subst (Among v) (sym (accepted-fits s settings cs)) (among-fitting s refl r a))) valid every
 
         same : SameSpan q n drawnRows (accepted (begun s) cs)

@@ -2,11 +2,14 @@
 --   held-kept       == the rows of a Sound receiver are rows, reduced when joined
 --   held-again      == a Sound receiver is the one that holds its rows
 --   holding-size, holding-used, holding-rows, holding-sound == what the receiver that holds some rows has, and that it is Sound
+--   holding-span    == the rows that it then holds span what those rows do
+--   holding-exactly == two lists of rows are held alike exactly where they have the same span
 --   holding-held    == a row more, in the span of the others, makes no other receiver
 --   holding-none    == the receiver that holds no rows is empty
 -- Assumes nothing.
 use mathlib.Core.Path.{_≡_, refl, ap, ap₂, sym, _∙_, subst, subst₂}
 use mathlib.Core.List.{List, [], _∷_, _++_}
+use mathlib.Core.Logic.{_↔_}
 use Prim.Native.Nat.{ℕ, _+_, _*_, _-_, _≤_, _<_}
 use native.Mathlib.Omega.{arith}
 use lib.ListN.{length, getD, drop, replicate, length-append, length-drop, take-append-drop, length-replicate, getD-replicate}
@@ -16,15 +19,15 @@ use Rattle.field.specs.laws.Decide.{laws}
 use Rattle.settings.specs.Settings.{settingsRefusal}
 use Rattle.settings.specs.laws.Accepted.{accepted}
 use Rattle.matrix.specs.Matrix.{Reduced}
-use Rattle.linear.specs.Span.{All, Row, InSpan, rowsOf}
+use Rattle.linear.specs.Span.{All, Row, InSpan, SameSpan, rowsOf}
 use Rattle.linear.specs.Eliminate.{join, insertRows, reducedRows, reducedOf, dimension}
 use Rattle.linear.specs.laws.FlatMatrix.{rows-length, join-rows}
 use Rattle.linear.specs.laws.FlatRows.{rows-joined, join-taken}
 use Rattle.linear.specs.laws.InsertMany.{Kept}
 use Rattle.linear.specs.laws.OneMore.{reducedRows-held}
-use Rattle.linear.specs.laws.ReducedOf.{reducedRows-kept, reducedOf-reduced, dimension-le}
+use Rattle.linear.specs.laws.ReducedOf.{reducedRows-kept, reducedRows-span, reducedOf-reduced, dimension-le}
 use Rattle.linear.specs.laws.ReducedRows.{reduced-rows, rows-sized}
-use Rattle.linear.specs.laws.SameMatrix.{reducedRows-again}
+use Rattle.linear.specs.laws.SameMatrix.{matrix-same, reducedRows-again}
 use Rattle.reduction.specs.Padded.{padded}
 use Rattle.receiver.specs.Receiver.{Setup, setupOf, setupRefusal, made, empty, used, heldRows, holding}
 use Rattle.receiver.specs.laws.Sound.{Sound, used-fit}
@@ -116,6 +119,9 @@ module _ (s : Setup) (settings : setupRefusal s ≡ 0) (rows : List (List ℕ)) 
   unfolding holding padded heldRows dimension reducedOf
   holding-rows = rows-joined n (replicate (256 - length (reducedOf q n rows)) 0) (rows-sized q n (reducedRows-kept q law n rows h .rows))
 
+  pub holding-span : SameSpan q n (heldRows (holding s rows)) rows
+  holding-span = subst (λ x. SameSpan q n x rows) (sym holding-rows) (reducedRows-span q law n rows h)
+
   pub holding-sound : Sound (holding s rows)
   unfolding holding padded
   holding-sound =
@@ -136,6 +142,23 @@ module _ (s : Setup) (settings : setupRefusal s ≡ 0) (rows : List (List ℕ)) 
   pub holding-held : (v : List ℕ) → InSpan q n rows v → holding s (rows ++ (v ∷ [])) ≡ holding s rows
   unfolding holding dimension reducedOf
   holding-held v i = ap (λ (x : List (List ℕ)). made s (length x) (padded 256 (join x))) (reducedRows-held q law n rows h v i)
+
+pub holding-exactly : (s : Setup) (settings : setupRefusal s ≡ 0) (rows others : List (List ℕ))
+    → All (Row (s .q) (s .n)) rows → All (Row (s .q) (s .n)) others
+    → (holding s rows ≡ holding s others) ↔ SameSpan (s .q) (s .n) rows others
+unfolding SameSpan holding
+holding-exactly s settings rows others h g = (there, back)
+  where
+    there : holding s rows ≡ holding s others → SameSpan (s .q) (s .n) rows others
+    there e v =
+        let own = holding-span s settings rows h v in
+        let held = subst (λ r. SameSpan (s .q) (s .n) (heldRows r) others) (sym e) (holding-span s settings others g) v in
+        (λ i. held .0 (own .1 i), λ i. own .0 (held .1 i))
+
+    back : SameSpan (s .q) (s .n) rows others → holding s rows ≡ holding s others
+    back same =
+        let e = matrix-same (s .q) (settings-laws (s .q) (s .n) (s .k) settings) (s .n) rows others h g same in
+        ap₂ (λ (m : List ℕ) (d : ℕ). made s d (padded 256 m)) (e .1) (e .0)
 
 pub holding-none : (s : Setup) → empty s ≡ holding s []
 unfolding holding padded reducedOf dimension reducedRows insertRows join

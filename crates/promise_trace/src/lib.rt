@@ -1,0 +1,1 @@
+// Order 9: theorems about the receivers that lists of calls leave; no code.
