@@ -2,6 +2,8 @@
 -- and Close, refused ones and rows of other packs included. Nothing is said of what the rows are mixed from.
 --   equal-exactly  == two lists, from the same Start, leave equal receivers exactly when the rows that they accept have the same span
 --   no-trace       == so where each row that isn't zero, and that one accepts, is one that the other accepts
+--   unraised-anywhere == a Take that does not raise the dimension where it is put in, so that of a row that is refused there, or idle,
+--                     leaves no trace either, in either form
 --   any-two        == two lists, each from a Start of its own, leave equal receivers exactly when q, n, k and the packs are the same, and
 --                     the rows that they accept have the same span
 --   held-exactly   == the same of any two receivers that Start and Take can leave, by the rows that they hold
@@ -11,21 +13,22 @@
 --   pooled-either-way == pooling the other way round hands back an equal receiver
 -- Assumes nothing.
 use mathlib.Core.Path.{_≡_, refl, ap, sym, _∙_, subst, subst₂}
-use mathlib.Core.Bool.{true}
-use mathlib.Core.List.{List, _++_}
+use mathlib.Core.Bool.{true, false}
+use mathlib.Core.List.{List, [], _∷_, _++_}
 use mathlib.Core.Logic.{_↔_, Iff·rfl}
 use Prim.Native.Nat.{ℕ}
 use Rattle.linear.specs.Span.{All, Row, SameSpan}
 use Rattle.linear.specs.laws.Every.{all-append}
 use Rattle.numbering.specs.Numbering.{isNumbering}
-use Rattle.receiver.specs.Receiver.{Setup, setup, setupOf, setupRefusal, heldRows, holding}
+use Rattle.receiver.specs.Receiver.{Setup, Offer, setup, setupOf, setupRefusal, heldRows, holding, takeOf, lentReceiver, takeRaised}
 use Rattle.receiver.specs.laws.Sound.{sound}
 use Rattle.receiver.specs.laws.Held.{settings-laws, holding-exactly}
+use Rattle.receiver.specs.laws.TakeAccepted.{take-told}
 use Rattle.receiver.specs.declared.Receiver.{Receiver}
-use Rattle.promise_recovery.specs.Calls.{Call, begun, after, accepted, Reachable}
+use Rattle.promise_recovery.specs.Calls.{Call, takeValue, takeLent, close, begun, after, accepted, Reachable}
 use Rattle.promise_recovery.specs.laws.After.{after-holds, after-setup, accepted-rows}
 use Rattle.promise_recovery.specs.laws.HoldRows.{holding-of-well-formed}
-use Rattle.promise_recovery.specs.laws.Reachable.{reachable-size, formed}
+use Rattle.promise_recovery.specs.laws.Reachable.{reachable-size, after-reachable, formed}
 use Rattle.promise_pool.specs.Pooling.{SameSetup, rowsOfBoth, pooledAfter}
 use Rattle.promise_pool.specs.Theorem.{order-1}
 use Rattle.promise_pool.specs.laws.TwoLists.{accepted-append}
@@ -47,6 +50,25 @@ no-trace s settings cs ds there back =
     equal-exactly s settings cs ds .1
     (covered-same (s .q) (settings-laws (s .q) (s .n) (s .k) settings) (s .n) (accepted (begun s) cs) (accepted (begun s) ds)
     (accepted-rows s settings cs) (accepted-rows s settings ds) there back)
+
+-- two lists, one after the other
+after-append : (r : Receiver) (cs ds : List Call) → after r (cs ++ ds) ≡ after (after r cs) ds
+unfolding after
+after-append r [] ds = refl
+after-append r (takeValue o ∷ cs) ds = after-append ((takeOf r o) .receiver) cs ds
+after-append r (takeLent o ∷ cs) ds = after-append (lentReceiver r o) cs ds
+after-append r (close t ∷ cs) ds = after-append r cs ds
+
+pub unraised-anywhere : (s : Setup) → setupRefusal s ≡ 0 → (cs ds : List Call) (o : Offer)
+    → takeRaised ((takeOf (after (begun s) cs) o) .answer) ≡ false
+    → (after (begun s) (cs ++ (takeValue o ∷ ds)) ≡ after (begun s) (cs ++ ds))
+    × (after (begun s) (cs ++ (takeLent o ∷ ds)) ≡ after (begun s) (cs ++ ds))
+unfolding after
+unraised-anywhere s settings cs ds o unraised =
+    let r = after (begun s) cs in
+    let told = take-told r o (reachable-size (after-reachable s settings cs)) (takeOf r o) refl in
+    let still = ap (λ x. after x ds) (told .untouched unraised) ∙ sym (after-append (begun s) cs ds) in
+    (after-append (begun s) cs (takeValue o ∷ ds) ∙ still, after-append (begun s) cs (takeLent o ∷ ds) ∙ still)
 
 -- setups are equal where all that they have is
 pub setups-equal : (s other : Setup) → s .q ≡ other .q → s .n ≡ other .n → s .k ≡ other .k → s .pack ≡ other .pack → s ≡ other

@@ -3,8 +3,8 @@
 --                  before the call
 --   answer      == document 01's numbers for the call, by the definitions that the contracts cite: the refusal number (0 for none), then
 --                  what the call answers (count; index; dimension, of Pool two; identifying vector; 1 for "raised"; 1 for "idle"), then the
---                  receiver and the lent buffers afterwards; of the list program, all that it writes, and by settings alone the refusal
---                  that it writes; of an index, its summands; of the line writer, 1 where the piece fits, how far the buffer is then
+--                  receiver and the lent buffers afterwards; of a list of calls from a Start, the rows that are accepted, and the receiver
+--                  that it leaves; of the list program, all that it writes, and by settings alone the refusal that it writes; of an index, its summands; of the line writer, 1 where the piece fits, how far the buffer is then
 --                  filled, and the buffer
 --   Example     == a call and what it must answer
 --   lent size   == a buffer painted with 165s
@@ -15,6 +15,7 @@ use Prim.Native.Nat.{ℕ, _*_, _-_, _^_}
 use lib.ListN.{length, replicate}
 use Rattle.basics.specs.Sum.{bit}
 use Rattle.settings.specs.Settings.{listRefusal, countOf, countNumber, countValue}
+use Rattle.linear.specs.Eliminate.{join}
 use Rattle.ferrers.specs.Ferrers.{size, diagram, diagramPlace, largerDiagrams, tableauValue}
 use Rattle.listing.specs.Listing.{listingOutput}
 use Rattle.text.specs.Piece.{fits, placeAfter, bufferAfter}
@@ -30,6 +31,7 @@ use Rattle.receiver.specs.Receiver.{setup, offer, made, startOf, startNumber, t
 use Rattle.receiver.specs.Receiver.{lentReceiver, lentAnswer, closeOf}
 use Rattle.receiver.specs.declared.Receiver.{Receiver}
 use Rattle.receiver.specs.declared.TakeAnswer.{TakeAnswer}
+use Rattle.promise_recovery.specs.Calls.{Call as ReceiverCall, begun, after, accepted}
 use Rattle.pool.specs.Pool.{poolOf, jointBuffer, commonBuffer, poolNumber, poolJoint, poolCommon}
 use Rattle.pandrwyg.specs.Exported.{exportedNumber, exportedBytes}
 
@@ -46,6 +48,7 @@ pub data Call : Type 0 where
   takeValue : (r : Receiver) (pack : ℕ) (row : List ℕ) → Call
   takeLent : (r : Receiver) (pack : ℕ) (row : List ℕ) → Call
   close : (r : Receiver) (t : ℕ) → Call
+  calls : (q n k pack : ℕ) (cs : List ReceiverCall) → Call
   pool : (a b : Receiver) (joint common : List ℕ) → Call
   list : (input : List ℕ) → Call
   listable : (q n k : ℕ) → Call
@@ -88,6 +91,7 @@ answer (start q n k pack) = let s = startOf (setup q n k pack) in startNumber s 
 answer (takeValue r pack row) = let t = takeOf r (offer pack row) in takes (t .answer) ++ image (t .receiver)
 answer (takeLent r pack row) = takes (lentAnswer r (offer pack row)) ++ image (lentReceiver r (offer pack row))
 answer (close r t) = received (closeOf r t)
+answer (calls q n k pack cs) = let r = begun (setup q n k pack) in join (accepted r cs) ++ image (after r cs)
 answer (pool a b joint common) =
     let p = poolOf a b (length joint) (length common) in
     poolNumber (p .answer) ∷ poolJoint (p .answer) ∷ poolCommon (p .answer) ∷ image (p .receiver)

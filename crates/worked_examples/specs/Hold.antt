@@ -41,6 +41,7 @@ use Rattle.reduce.specs.Reduce.{rowsSizeRefusal, rowListRefusal, reduceRefusal,
 use Rattle.receive.specs.Answer.{spaceRefusal, spaceAnswer}
 use Rattle.receive.specs.Receive.{rowsRefusal, receiveRefusal, receiveOf}
 use Rattle.receiver.specs.Receiver.{startOf, wellFormed, heldRows, holding, takeRefusal, takenIn, takeOf, closeRefusal, closeOf}
+use Rattle.promise_recovery.specs.Calls.{after, accepted}
 use Rattle.spaces.specs.Spaces.{jointOf, jointDimension, wide, wideRows, stacked, rightHalves, commonRows, commonOf, commonDimension}
 use Rattle.pool.specs.Pool.{alike, poolRefusal, pooled, poolOf, jointBuffer, commonBuffer}
 use Rattle.pandrwyg.specs.Exported.{bytesOf, exportedRefusal, exportedNumber, exportedOf, exportedBytes}
@@ -88,7 +89,7 @@ unfolding placeAfter bufferAfter listingOutput columnNames header linesFrom list
     rowsRefusal receiveRefusal receiveOf allBelow sum sumRange value tabulate padded refusedWord refusedLine reduceOf convertRefusal
     convertOf startOf wellFormed heldRows holding takeRefusal takenIn takeOf closeRefusal closeOf bytesOf exportedRefusal
     exportedNumber exportedOf exportedBytes spaceRefusal jointOf jointDimension wide wideRows stacked rightHalves commonRows commonOf
-    commonDimension alike poolRefusal pooled poolOf jointBuffer commonBuffer
+    commonDimension alike poolRefusal pooled poolOf jointBuffer commonBuffer after accepted
 every = each (marked ++ (readings ++ refusals)) refl
 
 front : {P : Example → Type 0} (xs ys : List Example) → All P (xs ++ ys) → All P xs

@@ -4,7 +4,10 @@
 use mathlib.Core.List.{List, [], _∷_, _++_}
 use Prim.Native.Nat.{ℕ}
 use lib.ListN.{replicate}
-use Rattle.worked_examples.specs.Answer.{Example, _⇒_, number, draw, reduce, receive, receiveC, list, lent, paper, fields}
+use Rattle.receiver.specs.Receiver.{Offer, offer}
+use Rattle.promise_recovery.specs.Calls.{takeValue, takeLent, close}
+use Rattle.worked_examples.specs.Answer.{Example, _⇒_, number, draw, reduce, receive, receiveC, calls, list, lent, paper, fields}
+use Rattle.worked_examples.specs.Answer.{receiver, image}
 
 -- diagrams of 3,1,1,1 and of 2,2,2,0 dots: at n = 7, k = 3 the first two diagrams that another order of formula (12) would exchange
 abbrev steep : List ℕ
@@ -22,6 +25,14 @@ fiveLines =
     ++ (50 ∷ 44 ∷ 50 ∷ 44 ∷ 49 ∷ 50 ∷ 10 ∷ [])
     ++ (51 ∷ 44 ∷ 51 ∷ 44 ∷ 49 ∷ 51 ∷ 10 ∷ [])
     ++ (52 ∷ 44 ∷ 52 ∷ 44 ∷ 48 ∷ 49 ∷ 10 ∷ [])
+
+-- rows of three entries, offered for the pack 258
+abbrev own : ℕ → ℕ → ℕ → Offer
+own a b c = offer 258 (a ∷ b ∷ c ∷ [])
+
+-- the receiver of 2,3,2 and the pack 258 that holds 101/011, by its fields
+abbrev plane : List ℕ
+plane = image (receiver 2 3 2 258 2 (1 ∷ 0 ∷ 1 ∷ 0 ∷ 1 ∷ 1 ∷ []))
 
 abbrev pub readings : List Example
 readings =
@@ -65,4 +76,17 @@ readings =
     -- no dimension has the vector 0, and all of them have all ones
     ∷ (receive 2 3 0 1 0 [] ⇒ (0 ∷ 0 ∷ 0 ∷ 0 ∷ []))
     ∷ (receive 2 3 3 1 3 (1 ∷ 0 ∷ 0 ∷ 0 ∷ 1 ∷ 0 ∷ 0 ∷ 0 ∷ 1 ∷ []) ⇒ (0 ∷ 0 ∷ 3 ∷ 7 ∷ []))
+    -- order 9: 110, 011 leave no trace of their sequence, of a repeat, a zero row, a row of the pack 259 and a Close; nor do 101, 110, which
+    -- have the same span
+    ∷ (calls 2 3 2 258 (takeValue (own 1 1 0) ∷ takeLent (own 0 1 1) ∷ []) ⇒ (1 ∷ 1 ∷ 0 ∷ 0 ∷ 1 ∷ 1 ∷ plane))
+    ∷ (calls 2 3 2 258
+    (takeLent (own 0 1 1) ∷ takeValue (own 0 0 0) ∷ takeLent (offer 259 (1 ∷ 1 ∷ 1 ∷ [])) ∷ close 1 ∷ takeValue (own 1 1 0)
+    ∷ takeValue (own 0 1 1) ∷ [])
+    ⇒ (0 ∷ 1 ∷ 1 ∷ 0 ∷ 0 ∷ 0 ∷ 1 ∷ 1 ∷ 0 ∷ 0 ∷ 1 ∷ 1 ∷ plane))
+    ∷ (calls 2 3 2 258 (takeLent (own 1 0 1) ∷ takeValue (own 1 1 0) ∷ []) ⇒ (1 ∷ 0 ∷ 1 ∷ 1 ∷ 1 ∷ 0 ∷ plane))
+    -- as many dimensions of another span, 110/001, and the first rows in a receiver of another pack, leave other receivers
+    ∷ (calls 2 3 2 258 (takeValue (own 1 1 0) ∷ takeLent (own 1 1 1) ∷ [])
+    ⇒ (1 ∷ 1 ∷ 0 ∷ 1 ∷ 1 ∷ 1 ∷ image (receiver 2 3 2 258 2 (1 ∷ 1 ∷ 0 ∷ 0 ∷ 0 ∷ 1 ∷ []))))
+    ∷ (calls 2 3 2 259 (takeValue (offer 259 (1 ∷ 1 ∷ 0 ∷ [])) ∷ takeLent (offer 259 (0 ∷ 1 ∷ 1 ∷ [])) ∷ [])
+    ⇒ (1 ∷ 1 ∷ 0 ∷ 0 ∷ 1 ∷ 1 ∷ image (receiver 2 3 2 259 2 (1 ∷ 0 ∷ 1 ∷ 0 ∷ 1 ∷ 1 ∷ []))))
     ∷ []
