@@ -17,6 +17,7 @@ use Rattle.linear.specs.Eliminate.{dimension}
 use Rattle.linear.specs.laws.Every.{all-append}
 use Rattle.linear.specs.laws.ReducedOf.{dimension-has, vector-has}
 use Rattle.numbering.specs.Numbering.{isNumbering, indexIn}
+use Rattle.numbering.specs.laws.Chosen.{first-known}
 use Rattle.drawing.specs.Drawing.{drawing}
 use Rattle.spaces.specs.Spaces.{JointSpace, CommonSpace, jointOf, jointDimension}
 use Rattle.receive.specs.declared.Received.the-variants.{Done}
@@ -170,11 +171,6 @@ module _ (s : Setup) (settings : setupRefusal s ≡ 0) where
         → (v : ℕ) × HasVector q n (us ++ vs) (poolJoint ((pooledAfter s cs ds) .answer)) v
     some-vector (d, v, has) =
         (v, subst (λ x. HasVector q n (us ++ vs) x v) (sym (vector-has q law n (us ++ vs) both-rows d v .0 has .0) ∙ both-dimension) has)
-
--- there is a numbering
-first-known : isNumbering 1 ≡ true
-unfolding isNumbering
-first-known = refl
 
 pub order-1-flat :
     -- (For any two receivers, which have 256 entries each, and any two lent buffers:)

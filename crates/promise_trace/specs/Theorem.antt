@@ -13,13 +13,13 @@
 --   pooled-either-way == pooling the other way round hands back an equal receiver
 -- Assumes nothing.
 use mathlib.Core.Path.{_≡_, refl, ap, sym, _∙_, subst, subst₂}
-use mathlib.Core.Bool.{true, false}
+use mathlib.Core.Bool.{false}
 use mathlib.Core.List.{List, [], _∷_, _++_}
 use mathlib.Core.Logic.{_↔_, Iff·rfl}
 use Prim.Native.Nat.{ℕ}
 use Rattle.linear.specs.Span.{All, Row, SameSpan}
 use Rattle.linear.specs.laws.Every.{all-append}
-use Rattle.numbering.specs.Numbering.{isNumbering}
+use Rattle.numbering.specs.laws.Chosen.{first-known}
 use Rattle.receiver.specs.Receiver.{Setup, Offer, setup, setupOf, setupRefusal, heldRows, holding, takeOf, lentReceiver, takeRaised}
 use Rattle.receiver.specs.laws.Sound.{sound}
 use Rattle.receiver.specs.laws.Held.{settings-laws, holding-exactly}
@@ -119,17 +119,16 @@ held-exactly a b reached other = (there, λ x. back (setups-equal (setupOf a) (s
         ∙ ap (λ s. holding s (heldRows b)) same
         ∙ sym (second .0)
 
--- there is a numbering
-first-known : isNumbering 1 ≡ true
-unfolding isNumbering
-first-known = refl
+-- the receiver that pooling hands back took both lists
+pooled-both : (s : Setup) → setupRefusal s ≡ 0 → (cs ds : List Call) → (pooledAfter s cs ds) .receiver ≡ after (begun s) (cs ++ ds)
+pooled-both s settings cs ds = order-1 s 1 settings first-known cs ds .1
 
 pub pooled-exactly : (s : Setup) → setupRefusal s ≡ 0 → (cs ds es : List Call)
     → ((pooledAfter s cs ds) .receiver ≡ after (begun s) es)
     ↔ SameSpan (s .q) (s .n) (rowsOfBoth s cs ds) (accepted (begun s) es)
 pooled-exactly s settings cs ds es =
     subst₂ (λ r rows. (r ≡ after (begun s) es) ↔ SameSpan (s .q) (s .n) rows (accepted (begun s) es))
-    (sym (order-1 s 1 settings first-known cs ds .1)) (accepted-append s settings cs ds) (equal-exactly s settings (cs ++ ds) es)
+    (sym (pooled-both s settings cs ds)) (accepted-append s settings cs ds) (equal-exactly s settings (cs ++ ds) es)
 
 pub pooled-no-trace : (s : Setup) → setupRefusal s ≡ 0 → (cs ds es : List Call)
     → Covered (rowsOfBoth s cs ds) (accepted (begun s) es)
@@ -148,4 +147,4 @@ pooled-either-way s settings cs ds =
     let e = sym (accepted-append s settings ds cs) in
     pooled-no-trace s settings cs ds (ds ++ cs) (subst (Covered (us ++ vs)) e (covered-swap us vs))
     (subst (λ rows. Covered rows (us ++ vs)) e (covered-swap vs us))
-    ∙ sym (order-1 s 1 settings first-known ds cs .1)
+    ∙ sym (pooled-both s settings ds cs)

@@ -2,8 +2,9 @@
 --   Chosen q n k t    == the settings are accepted and t is a numbering
 --   chosen, unrefused == what none of 1, 2, 3, 10 refuses is Chosen; and back
 --   accepted-bytes    == the matrix has at most 256 bytes
+--   first-known       == 1 is a numbering, so there is one
 -- Assumes nothing.
-use mathlib.Core.Path.{_≡_, _∙_}
+use mathlib.Core.Path.{_≡_, refl, _∙_}
 use mathlib.Core.Bool.{true}
 use mathlib.Core.List.{[], _∷_}
 use Prim.Native.Nat.{ℕ, _*_, _≤_}
@@ -31,3 +32,7 @@ unrefused q n k t s b = first-passed _ _ s ∙ test-passed _ _ _ b ∙ first-non
 
 pub accepted-bytes : (q n k : ℕ) → Accepted q n k → k * n ≤ 256
 accepted-bytes q n k a = mul-le-mul {n₁ = k} {m₁ = n} {n₂ = 16} {m₂ = 16} (omega (arith, a .dimension, a .narrow)) (a .narrow)
+
+pub first-known : isNumbering 1 ≡ true
+unfolding isNumbering
+first-known = refl
