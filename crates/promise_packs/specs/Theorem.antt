@@ -18,7 +18,7 @@ use Rattle.numbering.specs.Numbering.{isNumbering, indexIn}
 use Rattle.drawing.specs.Drawing.{drawing}
 use Rattle.reduce.specs.Reduce.{spaceOf}
 use Rattle.receive.specs.declared.Received.the-variants.{Done}
-use Rattle.receiver.specs.Receiver.{Setup, Offer, setup, offer, setupRefusal, empty, startOf, wellFormed, takeRefusal, takeNumber}
+use Rattle.receiver.specs.Receiver.{Setup, Offer, setup, offer, setupRefusal, empty, startOf, wellFormed, takeNumber}
 use Rattle.receiver.specs.Receiver.{closeRefusal, closeOf}
 use Rattle.receiver.specs.laws.TakeAccepted.{take-accepted, take-long, take-large, take-row}
 use Rattle.receiver.specs.declared.Receiver.{Receiver}

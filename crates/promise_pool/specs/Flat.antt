@@ -2,7 +2,7 @@
 -- follows from `order-1`, `packs-apart`, `pool-spaces` and `pool-reachable` by their clauses, and uses each of them.
 --   order-1-flat  == "Pooling takes two receivers with equal q, n and k and writes two reduced matrices into lent n×n buffers: .."
 -- Assumes nothing.
-use mathlib.Core.Path.{_≡_, refl, ap, sym, _∙_, subst, subst₂}
+use mathlib.Core.Path.{_≡_, ap, sym, _∙_, subst, subst₂}
 use mathlib.Core.Bool.{true}
 use mathlib.Core.List.{List, _++_}
 use mathlib.Core.Logic.{_↔_}
@@ -12,7 +12,7 @@ use Rattle.refusal.specs.laws.First.{done}
 use Rattle.field.specs.FieldLaws.{Laws}
 use Rattle.counts.specs.Gaussian.{gaussian}
 use Rattle.settings.specs.Settings.{settingsRefusal}
-use Rattle.linear.specs.Span.{All, Row, Mixed, SameSpan, HasDimension, HasVector, rowsOf}
+use Rattle.linear.specs.Span.{All, Row, Mixed, HasDimension, HasVector, rowsOf}
 use Rattle.linear.specs.Eliminate.{dimension}
 use Rattle.linear.specs.laws.Every.{all-append}
 use Rattle.linear.specs.laws.ReducedOf.{dimension-has, vector-has}

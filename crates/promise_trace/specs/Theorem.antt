@@ -16,7 +16,6 @@ use mathlib.Core.Path.{_≡_, refl, ap, sym, _∙_, subst, subst₂}
 use mathlib.Core.Bool.{false}
 use mathlib.Core.List.{List, [], _∷_, _++_}
 use mathlib.Core.Logic.{_↔_, Iff·rfl}
-use Prim.Native.Nat.{ℕ}
 use Rattle.linear.specs.Span.{All, Row, SameSpan}
 use Rattle.linear.specs.laws.Every.{all-append}
 use Rattle.numbering.specs.laws.Chosen.{first-known}

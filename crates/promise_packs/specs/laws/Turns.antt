@@ -8,7 +8,6 @@ use mathlib.Core.Path.{_≡_}
 use mathlib.Core.List.{List, [], _∷_}
 use Prim.Native.Nat.{ℕ}
 use Rattle.linear.specs.Span.{All, none, more, Among, first as here, later}
-use Rattle.receiver.specs.Receiver.{Offer}
 use Rattle.promise_recovery.specs.Calls.{offers}
 use Rattle.promise_packs.specs.Packs.{Turns, none as nothing, first, second}
 
