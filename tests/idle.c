@@ -107,16 +107,6 @@ static void random_row(const setting *s, uint64_t base_count, const uint8_t *bas
     }
 }
 
-/* Counts the answer to a row of the script's own; zeros put in between do not count. */
-static void count_answer(const harness_step *step)
-{
-    if (step->refusal < REFUSAL_LIMIT)
-        take_refusals[step->refusal]++;
-    raised_rows += step->raised;
-    idle_rows += step->idle;
-    held_rows += answers(step, held);
-}
-
 /* Closes both receivers in both numberings and in unknown ones. */
 static void compare_closes(const harness_receiver *without, const harness_receiver *with)
 {
@@ -142,7 +132,7 @@ static void run_script(const setting *s, const script *one)
         check(same_step(&first, &second), SETTING_FORMAT ": row %zu gives %u, raised %u, idle %u instead of %u, %u, %u",
               SETTING_VALUES(s), place, second.refusal, second.raised, second.idle, first.refusal, first.raised,
               first.idle);
-        count_answer(&first);
+        count_answer(&first); /* the script's own; zeros put in between do not count */
         without = first.receiver;
         with = second.receiver;
     }

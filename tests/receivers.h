@@ -212,6 +212,15 @@ static inline harness_receiver receiver_of(uint64_t q, uint64_t n, uint64_t k, u
 /* How often each refusal was met, and each row's answer; a script that meets only some of them tests little. */
 static uint64_t take_refusals[REFUSAL_LIMIT], close_refusals[REFUSAL_LIMIT], raised_rows, held_rows, idle_rows;
 
+static inline void count_answer(const harness_step *step)
+{
+    if (step->refusal < REFUSAL_LIMIT)
+        take_refusals[step->refusal]++;
+    raised_rows += step->raised;
+    idle_rows += step->idle;
+    held_rows += answers(step, held);
+}
+
 /* The scripts met every answer of Take and Close that they can. */
 static inline void script_answers_group(void)
 {
