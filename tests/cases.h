@@ -99,6 +99,25 @@ static inline void cases_begin(int argument_count, char **arguments)
     setting_count = accepted_settings(settings, UINT64_MAX);
 }
 
+/* What is compared for a setting, so many times. */
+typedef struct {
+    const char *name;
+    unsigned rounds;
+    void (*compare)(const setting *s);
+} comparison;
+
+/* A group for each comparison, over the accepted settings of a field size. */
+static inline void comparison_groups(uint64_t q, const comparison *each, size_t count)
+{
+    for (size_t place = 0; place < count; place++) {
+        check_group_begin("%s, q = %" PRIu64, each[place].name, q);
+        for (size_t number = 0; number < setting_count; number += thinning)
+            for (unsigned round = 0; round < each[place].rounds && settings[number].q == q; round++)
+                each[place].compare(&settings[number]);
+        check_group_end();
+    }
+}
+
 /* The bytes of a matrix. */
 static inline size_t width_of(const setting *s)
 {

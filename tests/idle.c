@@ -422,31 +422,17 @@ static void every_row(const setting *s)
     }
 }
 
-static void groups(uint64_t q)
-{
-    static const struct {
-        const char *name;
-        void (*compare)(const setting *s);
-    } each[] = {
-        {"zeros among scripts", zeros_among_scripts}, {"zeros at every dimension", zeros_at_every_dimension},
-        {"single entries", single_entries}, {"unreachable receivers", unreachable_receivers},
-        {"all combinations", all_combinations}, {"drawn rows", drawn_rows}, {"own combinations", own_combinations},
-        {"every row", every_row},
-    };
-    for (size_t place = 0; place < COUNT_OF(each); place++) {
-        check_group_begin("%s, q = %" PRIu64, each[place].name, q);
-        for (size_t number = 0; number < setting_count; number += thinning)
-            if (settings[number].q == q)
-                each[place].compare(&settings[number]);
-        check_group_end();
-    }
-}
-
 int main(int argument_count, char **arguments)
 {
+    static const comparison each[] = {
+        {"zeros among scripts", 1, zeros_among_scripts}, {"zeros at every dimension", 1, zeros_at_every_dimension},
+        {"single entries", 1, single_entries}, {"unreachable receivers", 1, unreachable_receivers},
+        {"all combinations", 1, all_combinations}, {"drawn rows", 1, drawn_rows},
+        {"own combinations", 1, own_combinations}, {"every row", 1, every_row},
+    };
     cases_begin(argument_count, arguments);
     for (unsigned place = 0; place < FIELD_COUNT; place++)
-        groups(second_field_sizes[place]);
+        comparison_groups(second_field_sizes[place], each, COUNT_OF(each));
     script_answers_group();
     return check_summary("idle");
 }

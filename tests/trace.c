@@ -640,31 +640,16 @@ static void spans_group(void)
     check_group_end();
 }
 
-static void groups(uint64_t q)
+int main(int argument_count, char **arguments)
 {
-    static const struct {
-        const char *name;
-        unsigned rounds;
-        void (*compare)(const setting *s);
-    } each[] = {
+    static const comparison each[] = {
         {"sequences of the same rows", 40, compare_sequences}, {"rows of the same span", 20, compare_bases},
         {"one difference", 20, compare_differences}, {"one other entry", 1, compare_entries},
         {"two short lists", 100, compare_two}, {"pools", 8, compare_pools},
     };
-    for (size_t place = 0; place < COUNT_OF(each); place++) {
-        check_group_begin("%s, q = %" PRIu64, each[place].name, q);
-        for (size_t number = 0; number < setting_count; number += thinning)
-            for (unsigned round = 0; round < each[place].rounds && settings[number].q == q; round++)
-                each[place].compare(&settings[number]);
-        check_group_end();
-    }
-}
-
-int main(int argument_count, char **arguments)
-{
     cases_begin(argument_count, arguments);
     for (unsigned place = 0; place < FIELD_COUNT; place++)
-        groups(second_field_sizes[place]);
+        comparison_groups(second_field_sizes[place], each, COUNT_OF(each));
     every_list_groups();
     script_answers_group();
     spans_group();
