@@ -11,10 +11,10 @@ use Rattle.field.specs.Laws.Kinds.{polynomial-small}
 use Rattle.field.proofs.add_polynomial.Statement.{statement}
 use Rattle.field.proofs.add_polynomial.Tie as tie
 
-polynomial-product-requires : tie.Need-polynomial-product-requires
+polynomial-product-requires : tie.Need-polynomial_product-requires
 polynomial-product-requires c κs = (c.requires.0, c.requires.1, c.requires.2)
 
-cast-result : tie.Need-overflow-cast-result
+cast-result : tie.Need-overflow_cast-result
 cast-result c =
     let s = c.before in
     let a = s.args in
@@ -22,7 +22,7 @@ cast-result c =
       fits =
           omega (
             arith,
-            c.polynomial-product.ensures,
+            c.polynomial_product.ensures,
             (product-exactly a.q s.requires.0 a.c s.requires.1 a.b s.requires.2).0,
             polynomial-small a.q s.requires.0,
           );
@@ -34,8 +34,8 @@ returns c =
     let s = c.before in
     let a = s.args in
     let p = product a.q a.c a.b in
-    ap (bit_xor a.a) c.polynomial-product.ensures
+    ap (bit_xor a.a) c.polynomial_product.ensures
     ∙ sym (ap (λ x. pick x (bit_xor a.a p) ((a.a + p) % a.q)) (is_true (is_polynomial a.q) s.requires.0))
 
-pub add-polynomial-spec : {M : Type 1} → statement M
-add-polynomial-spec = tie.close (tie.spec polynomial-product-requires cast-result returns)
+pub add_polynomial_spec : {M : Type 1} → statement M
+add_polynomial_spec = tie.close (tie.spec polynomial-product-requires cast-result returns)

@@ -6,5 +6,5 @@ use Rattle.field.proofs.is_polynomial.Tie as tie
 returns : tie.Need-returns
 returns c = by-four _ c.requires
 
-pub is-polynomial-spec : {M : Type 1} → statement M
-is-polynomial-spec = tie.close (tie.spec returns)
+pub is_polynomial_spec : {M : Type 1} → statement M
+is_polynomial_spec = tie.close (tie.spec returns)

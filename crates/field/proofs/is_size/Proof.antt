@@ -14,5 +14,5 @@ returns : tie.Need-returns
 unfolding is_field_size
 returns c = ap (λ p. ltb p 6) c.position.ensures ∙ position-member c.before.args.q field_sizes
 
-pub is-size-spec : {M : Type 1} → statement M
-is-size-spec = tie.close (tie.spec position-requires returns)
+pub is_size_spec : {M : Type 1} → statement M
+is_size_spec = tie.close (tie.spec position-requires returns)

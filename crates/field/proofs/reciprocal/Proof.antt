@@ -4,16 +4,16 @@ use Rattle.field.specs.Laws.Kinds.{last-odd}
 use Rattle.field.proofs.reciprocal.Statement.{statement}
 use Rattle.field.proofs.reciprocal.Tie as tie
 
-returns : tie.Need-returns
-returns c = rw c.match.keys1
+returns : tie.Need-returns-in-3
+returns c = rw c.in-3.is
 
-returns-2 : tie.Need-returns-2
-returns-2 c = rw c.match.keys2
+returns-2 : tie.Need-returns-in-5
+returns-2 c = rw c.in-5.is
 
-returns-3 : tie.Need-returns-3
+returns-3 : tie.Need-returns-in_default
 returns-3 c =
-    let e : c.before.args.q ≡ 7 = last-odd _ c.before.requires c.match.rest.0.1 c.match.rest.1 in
+    let e : c.before.args.q ≡ 7 = last-odd _ c.before.requires c.in_default.in_default-own.rest.0.1 c.in_default.in_default-own.rest.1 in
     rw e
 
-pub reciprocal-spec : {M : Type 1} → statement M
-reciprocal-spec = tie.close (tie.spec returns returns-2 returns-3)
+pub reciprocal_spec : {M : Type 1} → statement M
+reciprocal_spec = tie.close (tie.spec returns returns-2 returns-3)
