@@ -1,5 +1,7 @@
 // A caller of each public call and of each function for C, that asks nothing of its own caller and repeats the whole contract of what it
 // calls: where a contract loses a clause, or asks something, its caller here is refused. No part of the product.
+#![tactic(auto)]
+
 ghost use Rattle.std.specs.Prelude.{◌≡◌, length, take};
 ghost use Rattle.refusal.specs.Refusal.{unless_refused};
 ghost use Rattle.counts.specs.Gaussian.{gaussian, counts as counts_table};

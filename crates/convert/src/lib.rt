@@ -1,4 +1,6 @@
 // Convert: an index of one numbering to that of the same space in the other.
+#![tactic(auto)]
+
 ghost use Rattle.std.specs.Prelude.{◌≡◌};
 ghost use Rattle.refusal.specs.Refusal.{unless_refused};
 ghost use Rattle.numbering.specs.Numbering.{index_of, drawn};

@@ -1,4 +1,6 @@
 // The number of spaces: the Gaussian coefficient and its table; powers of q.
+#![tactic(auto)]
+
 mod lookup;
 mod table;
 

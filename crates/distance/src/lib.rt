@@ -1,4 +1,6 @@
 // The subspace distance of two lists of rows.
+#![tactic(auto)]
+
 ghost use Rattle.std.specs.Prelude.{◌≡◌, ◌*◌, replicate};
 ghost use Rattle.refusal.specs.Refusal.{unless_refused};
 ghost use Rattle.linear.specs.Span.{rows_of};

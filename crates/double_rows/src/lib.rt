@@ -1,4 +1,6 @@
 // Rows of double width: each row of a matrix beside itself or beside zeros, and the right halves of those that lead there.
+#![tactic(auto)]
+
 ghost use Rattle.std.specs.Prelude.{◌≡◌, ◌++◌, ◌+◌, ◌*◌, ◌≤◌, ltb, length, take, drop};
 ghost use Rattle.std.proofs.Math.Seq.{paste};
 ghost use Rattle.basics.specs.Choice.{pick};

@@ -1,4 +1,6 @@
 // Draw: index to matrix.
+#![tactic(auto)]
+
 ghost use Rattle.std.specs.Prelude.{◌≡◌, ◌*◌, length};
 ghost use Rattle.counts.specs.Gaussian.{gaussian};
 ghost use Rattle.numbering.specs.Numbering.{choice_refusal};

@@ -1,4 +1,6 @@
 // Draw over a list of indexes with the same settings.
+#![tactic(auto)]
+
 ghost use Rattle.std.specs.Prelude.{◌≡◌, ◌*◌, eqb, length};
 ghost use Rattle.numbering.specs.Numbering.{choice_refusal};
 ghost use Rattle.draw_batch.specs.Batch.{batch_refusal, draw_parts, draw_answers, batch_matrices, batch_answers};

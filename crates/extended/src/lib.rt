@@ -1,4 +1,6 @@
 // The extended numbering: a reduced matrix to its index, and back.
+#![tactic(auto)]
+
 ghost use Rattle.std.specs.Prelude.{◌≡◌, ◌*◌, ◌^◌, ◌%◌, ◌<◌, ◌≤◌, length};
 ghost use Rattle.std.specs.Int.Count.{ones};
 ghost use Rattle.matrix.specs.Matrix.{identifying, Reduced};

@@ -1,4 +1,6 @@
 // The Ferrers numbering.
+#![tactic(auto)]
+
 ghost use Rattle.std.specs.Prelude.{◌≡◌, ℕ, ◌*◌, ◌-◌, ◌^◌, ◌≤◌, ◌<◌, length};
 ghost use Rattle.counts.specs.Gaussian.{gaussian};
 ghost use Rattle.settings.specs.Laws.Accepted.{Accepted};

@@ -1,4 +1,6 @@
 // Arithmetic of the field with q elements, on bytes.
+#![tactic(auto)]
+
 ghost use Rattle.std.specs.Prelude.{◌≡◌, false, ◌+◌, ◌/◌, ◌<◌, T, get_or};
 ghost use Rattle.basics.specs.Member.{member};
 ghost use Rattle.basics.specs.Laws.Member.{position as position_in};

@@ -1,4 +1,6 @@
 // Flat shims for the C tests, over numbers and byte slices, for what only Rattle callers reach. No part of the product.
+#![tactic(auto)]
+
 pub mod image;
 
 use distance::Measured;

@@ -1,4 +1,6 @@
 // The lines, each put together by a line writer. From a buffer to a writer and back: the contracts say nothing of a writer.
+#![tactic(auto)]
+
 ghost use Rattle.std.specs.Prelude.{[], ◌∷◌};
 ghost use Rattle.text.specs.Text.{line_feed};
 ghost use Rattle.text.specs.Piece.{Composed};

@@ -1,1 +1,2 @@
 // Rows, spans and reduced matrices: definitions and theorems, no code.
+#![tactic(auto)]

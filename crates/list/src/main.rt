@@ -1,6 +1,8 @@
 // The list program: reads the settings line, and writes the listing or the refusal. Of the input only the first bytes are read, which
 // decide whether it is a settings line. A read that fails is the input's end. A write that fails ends the program, which says so on
 // standard error.
+#![tactic(auto)]
+
 ghost use Rattle.std.specs.Prelude.{◌≡◌, true};
 ghost use Rattle.listing.specs.declared.State.TheVariants.{Done};
 ghost use Rattle.listing.specs.Listing.{listing_output};

@@ -1,4 +1,6 @@
 // The listing of all spaces of some settings, written chunk by chunk.
+#![tactic(auto)]
+
 mod write;
 
 ghost use Rattle.std.specs.Prelude.{◌≡◌, ◌≤◌, length};

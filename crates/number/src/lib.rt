@@ -1,4 +1,6 @@
 // Number: matrix to index.
+#![tactic(auto)]
+
 ghost use Rattle.std.specs.Prelude.{◌≡◌};
 ghost use Rattle.refusal.specs.Refusal.{unless_refused};
 ghost use Rattle.numbering.specs.Numbering.{index_of};

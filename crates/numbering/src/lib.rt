@@ -1,4 +1,6 @@
 // The two numberings side by side: what stands for which, and the index and the matrix in either.
+#![tactic(auto)]
+
 ghost use Rattle.std.specs.Prelude.{◌≡◌, ◌*◌, ◌<◌, length};
 ghost use Rattle.counts.specs.Gaussian.{gaussian};
 ghost use Rattle.settings.specs.Laws.Accepted.{Accepted};

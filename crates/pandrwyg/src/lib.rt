@@ -1,5 +1,7 @@
 // The raw functions for C, over numbers and slices: the pack's firmware calls Draw, the fleet server draws batches, the cabinet's daemon calls
 // Receive. include/pandrwyg.h puts an inline function in front of each, which keeps null pointers out.
+#![tactic(auto)]
+
 ghost use Rattle.std.specs.Prelude.{◌≡◌, ◌<◌, length};
 ghost use Rattle.draw.specs.Draw.{draw_refusal, draw_buffer};
 ghost use Rattle.draw_batch.specs.Batch.{batch_refusal, batch_matrices, batch_answers};

@@ -1,4 +1,6 @@
 // The partition counts: how many Ferrers diagrams a box has, by their dots.
+#![tactic(auto)]
+
 mod lookup;
 
 ghost use Rattle.std.specs.Prelude.{◌≡◌, ◌*◌, ◌-◌, ◌≤◌};

@@ -1,4 +1,6 @@
 // Pooling: two receivers with the same settings and pack become one that holds the smallest space containing both.
+#![tactic(auto)]
+
 ghost use Rattle.std.specs.Prelude.{◌≡◌, true, ◌++◌, ◌+◌, ◌*◌, length};
 ghost use Rattle.refusal.specs.Refusal.{unless_refused};
 ghost use Rattle.linear.specs.Eliminate.{join};

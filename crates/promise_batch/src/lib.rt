@@ -1,1 +1,2 @@
 // Order 6: theorems about the definitions that the contract of a batch cites; no code.
+#![tactic(auto)]

@@ -1,4 +1,6 @@
 // Receive: rows to index.
+#![tactic(auto)]
+
 ghost use Rattle.std.specs.Prelude.{◌≡◌, ◌*◌, ◌≤◌, T, length};
 ghost use Rattle.settings.specs.Laws.Accepted.{Accepted};
 ghost use Rattle.matrix.specs.Matrix.{entries_below, Reduced};

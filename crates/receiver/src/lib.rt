@@ -1,4 +1,6 @@
 // The receiver: the reduced rows of all rows taken so far, the settings, and the pack that it belongs to.
+#![tactic(auto)]
+
 ghost use Rattle.std.specs.Prelude.{◌≡◌, false, ℕ, length};
 ghost use Rattle.basics.specs.Choice.{pick};
 ghost use Rattle.matrix.specs.Matrix.{identifying};

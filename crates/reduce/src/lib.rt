@@ -1,4 +1,6 @@
 // Reduce: the reduced matrix of the span of some rows.
+#![tactic(auto)]
+
 ghost use Rattle.std.specs.Prelude.{◌≡◌, ◌*◌, ◌≤◌, T, length, replicate};
 ghost use Rattle.refusal.specs.Refusal.{unless_refused};
 ghost use Rattle.field.specs.Field.{is_field_size};

@@ -1,4 +1,6 @@
 // Row reduction on lent bytes: matrices are flat, row by row, with n bytes a row.
+#![tactic(auto)]
+
 ghost use Rattle.std.specs.Prelude.{◌≡◌, ◌++◌, ℕ, ◌+◌, ◌*◌, ◌-◌, ◌≤◌, ◌<◌, T, length, get_or, take, drop, replicate};
 ghost use Rattle.field.specs.Field.{is_field_size};
 ghost use Rattle.linear.specs.Span.{All, Row, rows_of};

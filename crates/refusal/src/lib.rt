@@ -1,4 +1,6 @@
 // The refusals of document 01 by name. specs/Refusal.antt has each number's sentence; a call's contract cites the name there.
+#![tactic(auto)]
+
 pub const FIELD_SIZE: u32 = 1;
 
 pub const RANGE: u32 = 2;

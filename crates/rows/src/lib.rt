@@ -1,4 +1,6 @@
 // Operations on the rows of a flat matrix, n bytes a row, in lent bytes.
+#![tactic(auto)]
+
 ghost use Rattle.std.specs.Prelude.{◌≡◌, false, ◌⊎◌, ◌+◌, ◌*◌, ◌≤◌, ◌<◌, T, length};
 ghost use Rattle.field.specs.Field.{is_field_size, is_polynomial};
 ghost use Rattle.linear.specs.Span.{Row};

@@ -1,4 +1,6 @@
 // The rows of a matrix put into a buffer as text.
+#![tactic(auto)]
+
 ghost use Rattle.std.specs.Prelude.{◌≡◌, ◌-◌, ◌+◌, ◌*◌, ◌<◌, ◌≤◌, get_or};
 ghost use Rattle.text.specs.Piece.{Appended};
 ghost use Rattle.rows_text.specs.Rows.{DigitRows, rows_text};

@@ -1,4 +1,6 @@
 // The settings q, n and k that are accepted, and how many spaces they have.
+#![tactic(auto)]
+
 ghost use Rattle.std.specs.Prelude.{◌≡◌};
 ghost use Rattle.refusal.specs.Refusal.{unless_refused};
 ghost use Rattle.counts.specs.Gaussian.{gaussian};

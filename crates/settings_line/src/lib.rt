@@ -1,4 +1,6 @@
 // The settings line of the programs that read their settings.
+#![tactic(auto)]
+
 pub mod decimal;
 
 ghost use Rattle.std.specs.Prelude.{◌≡◌};

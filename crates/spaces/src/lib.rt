@@ -1,1 +1,2 @@
 // Two spaces of rows, joint and common: definitions and theorems, no code.
+#![tactic(auto)]

@@ -1,4 +1,6 @@
 // Runs document 01's bench examples that are not proved, and prints a line for each; the file stdout holds what they must be.
+#![tactic(auto)]
+
 use libc::STDOUT_FILENO;
 use settings::Counted;
 
