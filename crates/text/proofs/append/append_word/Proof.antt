@@ -9,13 +9,13 @@ use Rattle.text.specs.Word.{letters}
 use Rattle.text.proofs.append.append_word.Statement.{statement}
 use Rattle.text.proofs.append.append_word.Tie as tie
 
-array-share-prefix-bytes : tie.Need-array-share-prefix-bytes
+array-share-prefix-bytes : tie.Need-slice_bounds-bytes-end
 array-share-prefix-bytes c =
     let word = c.before.before.before.before.args.word in
     let l : length word.bytes ≡ 32 = search rules in
     omega arith
 
-slice-aggregate-append : tie.Need-slice-aggregate-append
+slice-aggregate-append : tie.Need-slice_bounds-append-end
 slice-aggregate-append c =
     let word = c.before.before.before.before.before.args.word in
     let l : length word.bytes ≡ 32 = search rules in
@@ -24,24 +24,24 @@ slice-aggregate-append c =
 append-requires : tie.Need-append-requires
 append-requires c κs = search rules
 
-same_length : tie.Need-same-length
+same_length : tie.Need-shape_of-buffer-then-size-lt-LONGEST
 same_length c = search rules
 
-returns : tie.Need-returns
+returns : tie.Need-returns-then-size-lt-LONGEST
 returns c = search rules
 
-slice-aggregate-append-2 : tie.Need-slice-aggregate-append-2
+slice-aggregate-append-2 : tie.Need-slice_bounds-append-end-2
 slice-aggregate-append-2 c = search rules
 
 append-requires-2 : tie.Need-append-requires-2
 append-requires-2 c κs = search rules
 
-same-length-2 : tie.Need-same-length-2
+same-length-2 : tie.Need-shape_of-buffer
 same-length-2 c = search rules
 
-returns-2 : tie.Need-returns-2
+returns-2 : tie.Need-returns
 returns-2 c =
-    let p = c.before.before.append2.ensures in
+    let p = c.before.before.append-2.ensures in
     let a = c.before.before.before.before.before.before.before.before.args in
     let l : length a.word.bytes ≡ 32 = search rules in
     let e : a.word.bytes ≡ letters a.word = sym (take_all a.word.size a.word.bytes (omega arith)) in (
@@ -50,8 +50,8 @@ returns-2 c =
       p.2 ∙ ap (buffer_after a.buffer.now a.at) e,
     )
 
-pub append-word-spec : {M : Type 1} → statement M
-append-word-spec =
+pub append_word_spec : {M : Type 1} → statement M
+append_word_spec =
     tie.close
     (tie.spec
     array-share-prefix-bytes

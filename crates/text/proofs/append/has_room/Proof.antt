@@ -7,11 +7,11 @@ use Rattle.text.specs.Laws.Piece.{room-decided}
 use Rattle.text.proofs.append.has_room.Statement.{statement}
 use Rattle.text.proofs.append.has_room.Tie as tie
 
-returns : tie.Need-returns
-returns c = let a = c.before.args in sym (lt-leb (a.at + a.length) a.size (omega (arith, c.if1.true)))
+returns : tie.Need-returns-then-size-at
+returns c = let a = c.before.args in sym (lt-leb (a.at + a.length) a.size (omega (arith, c.if-size-at.true)))
 
-returns-2 : tie.Need-returns-2
-returns-2 c = room-decided _ _ _ c.if1.false
+returns-2 : tie.Need-returns
+returns-2 c = room-decided _ _ _ c.if-size-at.false
 
-pub has-room-spec : {M : Type 1} → statement M
-has-room-spec = tie.close (tie.spec returns returns-2)
+pub has_room_spec : {M : Type 1} → statement M
+has_room_spec = tie.close (tie.spec returns returns-2)

@@ -9,16 +9,16 @@ use borrow.Author.Rules.{rules}
 use Rattle.text.proofs.word.numbered.Statement.{statement}
 use Rattle.text.proofs.word.numbered.Tie as tie
 
-slice-aggregate-append : tie.Need-slice-aggregate-append
+slice-aggregate-append : tie.Need-slice_bounds-append-end
 slice-aggregate-append c = search rules
 
-append-requires : tie.Need-append-requires
+append-requires : tie.Need-append-front-requires
 append-requires c κs = search rules
 
-slice-aggregate-append-number : tie.Need-slice-aggregate-append-number
+slice-aggregate-append-number : tie.Need-slice_bounds-append_number-end
 slice-aggregate-append-number c = search rules
 
-append-number-requires : tie.Need-append-number-requires
+append-number-requires : tie.Need-append_number-whole-requires
 append-number-requires c κs = search rules
 
 returns : tie.Need-returns
@@ -27,11 +27,11 @@ returns c =
     let f = w.before.before.before in
     let a = f.before.before.before.args in
     let short : length (numeral a.number) ≤ 20 = numeral-length 19 a.number (omega arith) in
-    front-put (replicate 32 0) a.spelled.now (numeral a.number) _ _ _ _ (omega arith) f.append.ensures.0 f.append.ensures.2
-    w.append-number.ensures.0 w.append-number.ensures.2
+    front-put (replicate 32 0) a.spelled.now (numeral a.number) _ _ _ _ (omega arith) f.append-front.ensures.0 f.append-front.ensures.2
+    w.append_number-whole.ensures.0 w.append_number-whole.ensures.2
 
-pub numbered-spec : {M : Type 1} → statement M
-numbered-spec =
+pub numbered_spec : {M : Type 1} → statement M
+numbered_spec =
     tie.close
     (tie.spec
     slice-aggregate-append
