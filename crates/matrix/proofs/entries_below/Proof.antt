@@ -7,17 +7,17 @@ use borrow.Author.Rules.{rules}
 use Rattle.matrix.proofs.entries_below.Statement.{statement}
 use Rattle.matrix.proofs.entries_below.Tie as tie
 
-returns : tie.Need-returns
-returns c = let a = c.before.before.args in sym (ap (λ x. entries_below x a.m.now) c.if1.true ∙ below_none a.m.now)
+returns : tie.Need-returns-then-q-eq0
+returns c = let a = c.before.before.args in sym (ap (λ x. entries_below x a.m.now) c.if-q-eq0.true ∙ below_none a.m.now)
 
 greatest-requires : tie.Need-greatest-requires
 greatest-requires c κs = search rules
 
-cast-result : tie.Need-overflow-cast-result
+cast-result : tie.Need-overflow_cast-result
 cast-result c = search rules
 
-returns-2 : tie.Need-returns-2
-returns-2 c = c.greatest.ensures _ (omega (arith, c.before.if1.false))
+returns-2 : tie.Need-returns
+returns-2 c = c.greatest.ensures _ (omega (arith, c.before.if-q-eq0.false))
 
-pub entries-below-spec : {M : Type 1} → statement M
-entries-below-spec = tie.close (tie.spec returns greatest-requires cast-result returns-2)
+pub entries_below_spec : {M : Type 1} → statement M
+entries_below_spec = tie.close (tie.spec returns greatest-requires cast-result returns-2)

@@ -10,44 +10,44 @@ use Rattle.matrix.specs.Laws.LeadLoop.{lead-here, lead-next, lead-end}
 use Rattle.matrix.proofs.lead.Statement.{statement}
 use Rattle.matrix.proofs.lead.Tie as tie
 
-abbrev invariant-loop : tie.invariant-loop
+abbrev invariant-loop : tie.invariant-loop-j
 invariant-loop m start n j₀ j = (j ≤ n) × (lead_of (λ i. get_or m (start + i) 0) n ≡ lead_from (λ i. get_or m (start + i) 0) j (n - j))
 
-abbrev decreases-loop : tie.decreases-loop
+abbrev decreases-loop : tie.decreases-loop-j
 decreases-loop m start n j₀ j = n - j
 
-loop-holds : tie.Need-loop-init invariant-loop decreases-loop
+loop-holds : tie.Need-loop-j-init invariant-loop decreases-loop
 unfolding lead_of
 loop-holds c = (omega arith, ap (lead_from _ 0) (sym (sub-zero c.args.n)))
 
-add-if1 : tie.Need-overflow-add-if1 invariant-loop decreases-loop
+add-if1 : tie.Need-overflow_add-start invariant-loop decreases-loop
 add-if1 c = omega arith
 
-shared-slice-read-if1 : tie.Need-shared-slice-read-if1 invariant-loop decreases-loop
+shared-slice-read-if1 : tie.Need-bounds-m-start invariant-loop decreases-loop
 shared-slice-read-if1 c = omega arith
 
-returns : tie.Need-returns invariant-loop decreases-loop
+returns : tie.Need-returns-then-m-start-ne0 invariant-loop decreases-loop
 returns c =
     let l = c.before.before.before in
-    sym (l.loop.invariant.1 ∙ lead-here _ _ _ c.before.before.loop-test.true c.if1.true)
+    sym (l.loop-j.invariant.1 ∙ lead-here _ _ _ c.before.before.loop-j-test.true c.if-m-start-ne0.true)
 
-add-j : tie.Need-overflow-add-j invariant-loop decreases-loop
+add-j : tie.Need-overflow_add-j invariant-loop decreases-loop
 add-j c = omega arith
 
-loop-less : tie.Need-loop-smaller invariant-loop decreases-loop
+loop-less : tie.Need-loop-j-smaller invariant-loop decreases-loop
 loop-less c = omega arith
 
-loop-again : tie.Need-loop-preserved invariant-loop decreases-loop
+loop-again : tie.Need-loop-j-preserved invariant-loop decreases-loop
 loop-again c =
     let l = c.before.before.before in
-    (omega arith, rw add-one (l.loop.invariant.1 ∙ lead-next _ _ _ c.before.before.loop-test.true c.if1.false))
+    (omega arith, rw add-one (l.loop-j.invariant.1 ∙ lead-next _ _ _ c.before.before.loop-j-test.true c.if-m-start-ne0.false))
 
-returns-2 : tie.Need-returns-2 invariant-loop decreases-loop
+returns-2 : tie.Need-returns invariant-loop decreases-loop
 returns-2 c =
-    sym (c.before.loop.invariant.1 ∙ lead-end _ _ _ (omega arith))
+    sym (c.before.loop-j.invariant.1 ∙ lead-end _ _ _ (omega arith))
 
-pub lead-spec : {M : Type 1} → statement M
-lead-spec =
+pub lead_spec : {M : Type 1} → statement M
+lead_spec =
     tie.close
     (tie.spec
     invariant-loop

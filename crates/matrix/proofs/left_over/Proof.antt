@@ -19,30 +19,30 @@ low_digit q x others positive small e =
     let split : others * q ≡ others / 256 * q * 256 + others % 256 * q = omega (arith, ap (λ o. o * q) (sym (div-add-mod' others 256))) in
     omega (arith, whole, less, split, low-times q others positive small)
 
-cast-result : tie.Need-overflow-cast-result
+cast-result : tie.Need-overflow_cast-result
 cast-result c = search rules
 
-mul-result : tie.Need-overflow-mul-result
+mul-result : tie.Need-overflow_mul-result
 mul-result c = search rules
 
-add-result : tie.Need-overflow-add-result
+add-result : tie.Need-overflow_add-result
 add-result c = search rules
 
-cast-result-2 : tie.Need-overflow-cast-result-2
+cast-result-2 : tie.Need-overflow_cast-result-2
 cast-result-2 c = search rules
 
-mul-result-2 : tie.Need-overflow-mul-result-2
+mul-result-2 : tie.Need-overflow_mul-result-2
 mul-result-2 c = omega (arith, low-times c.args.q c.args.others c.requires.0 c.requires.1)
 
-sub-result : tie.Need-overflow-sub-result
+sub-result : tie.Need-overflow_sub-result
 sub-result c = omega (arith, low-times c.args.q c.args.others c.requires.0 c.requires.1)
 
-cast-result-3 : tie.Need-overflow-cast-result-3
+cast-result-3 : tie.Need-overflow_cast-result-3
 cast-result-3 c = search rules
 
 returns : tie.Need-returns
 returns c = low_digit _ _ _ c.requires.0 c.requires.1 c.requires.2
 
-pub left-over-spec : {M : Type 1} → statement M
-left-over-spec =
+pub left_over_spec : {M : Type 1} → statement M
+left_over_spec =
     tie.close (tie.spec cast-result mul-result add-result cast-result-2 mul-result-2 sub-result cast-result-3 returns)

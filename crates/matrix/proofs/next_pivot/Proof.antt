@@ -8,8 +8,8 @@ use Rattle.matrix.proofs.next_pivot.Tie as tie
 returns : tie.Need-returns
 returns c = refl
 
-cast-result : tie.Need-overflow-cast-result
+cast-result : tie.Need-overflow_cast-result
 cast-result c = omega (arith, trailing_le 16 c.args.v)
 
-pub next-pivot-spec : {M : Type 1} → statement M
-next-pivot-spec = tie.close (tie.spec cast-result returns)
+pub next_pivot_spec : {M : Type 1} → statement M
+next_pivot_spec = tie.close (tie.spec cast-result returns)

@@ -5,14 +5,14 @@ use Rattle.matrix.specs.Laws.Bits.{trailing_odd}
 use Rattle.matrix.proofs.pivot_at.Statement.{statement}
 use Rattle.matrix.proofs.pivot_at.Tie as tie
 
-cast-result : tie.Need-overflow-cast-result
+cast-result : tie.Need-overflow_cast-result
 cast-result c = search rules
 
-shr-result : tie.Need-overflow-shr-result
+shr-result : tie.Need-overflow_shr-result
 shr-result c = search rules
 
 returns : tie.Need-returns
 returns c = trailing_odd 15 (c.args.v / 2 ^ c.args.j)
 
-pub pivot-at-spec : {M : Type 1} → statement M
-pivot-at-spec = tie.close (tie.spec cast-result shr-result returns)
+pub pivot_at_spec : {M : Type 1} → statement M
+pivot_at_spec = tie.close (tie.spec cast-result shr-result returns)

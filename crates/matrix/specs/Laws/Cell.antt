@@ -78,7 +78,7 @@ peeled-cell {q} h (valid-pivot {k} {n} {s} v) =
     (λ i l. cell-pivot-last q k n s i ∙ rw (ne_eqb i k (omega arith)))
     (λ j l. cell-pivot-before q k n s k j l ∙ cell-outside v k j (le_refl k)) p
 
-pub peeled-entries : {q k n : ℕ} {A : ℕ → ℕ → ℕ} {s : Shape} → Peeled q A k n s → (i j : ℕ) → i < k → j < n → A i j ≡ cell q s k n i j
+pub peeled-entries : {q : ℕ} {A : ℕ → ℕ → ℕ} {k n : ℕ} {s : Shape} → Peeled q A k n s → (i j : ℕ) → i < k → j < n → A i j ≡ cell q s k n i j
 peeled-entries peeled-empty i j h b = absurd (not-suc-le-zero h)
 peeled-entries {q} {A} (peeled-free {k} {n} {s} g p) i j h b = cases (eq-or-lt_of_le (le_of_suc-le-suc b)) (λ c. peeled-entries p i j h c)
   where

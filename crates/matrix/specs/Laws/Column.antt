@@ -45,7 +45,7 @@ stop-or-go : {q N K k b c : ℕ} {m : List ℕ} {s : Shape} → Located q N K m 
 stop-or-go {k} {s} l (inl e) r = (k, s, rw e l)
 stop-or-go l (inr h) r = r (le_of_suc-le-suc h)
 
-located-below : {q N K k b : ℕ} {m : List ℕ} {s : Shape} → Peeled q (entry N m) k b s → Located q N K m k b s
+located-below : {q N K : ℕ} {m : List ℕ} {k b : ℕ} {s : Shape} → Peeled q (entry N m) k b s → Located q N K m k b s
     → (c : ℕ) → c ≤ b → (j : ℕ) × (t : Shape) × Located q N K m j c t
 located-below peeled-empty l c h = (0, empty, rw (le-zero h) l)
 located-below (peeled-free g p) l c h = stop-or-go l (eq-or-lt_of_le h) (λ b. located-below p (located-free l) c b)

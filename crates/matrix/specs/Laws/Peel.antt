@@ -108,7 +108,7 @@ module _ (q N k c : ℕ) (A : ℕ → ℕ → ℕ) (size : 1 < q) (e : lead (A k
 pub peeled-lead : (N k c : ℕ) (A : ℕ → ℕ → ℕ) → c < N → A k c ≡ 1 → ((j : ℕ) → j < c → A k j ≡ 0) → lead (A k) N ≡ c
 peeled-lead N k c A b o left = lead-unique (A k) N c (omega arith) left (λ h z. omega arith)
 
-pub corner-of-peeled : {q N k c : ℕ} {A : ℕ → ℕ → ℕ} {s : Shape} → 1 < q → c ≤ N → Peeled q A k c s → Corner q N A k c
+pub corner-of-peeled : {q N : ℕ} {A : ℕ → ℕ → ℕ} {k c : ℕ} {s : Shape} → 1 < q → c ≤ N → Peeled q A k c s → Corner q N A k c
 corner-of-peeled h b peeled-empty =
     record {
       below = λ i j g _. absurd (not-suc-le-zero g);

@@ -35,7 +35,7 @@ pub record Located (q N K : ℕ) (m : List ℕ) (k c : ℕ) (s : Shape) : Type 0
   pub right : (i : ℕ) → k ≤ i → i < K → c ≤ pivot_column N m i
   pub counted : sum (N - c) (λ i. bit (pivot_at N K m (suc i))) ≡ K - k
 
-pub peeled-left : {q N k c : ℕ} {A : ℕ → ℕ → ℕ} {s : Shape} → c ≤ N → Peeled q A k c s → (i : ℕ) → i < k → lead (A i) N < c
+pub peeled-left : {q N : ℕ} {A : ℕ → ℕ → ℕ} {k c : ℕ} {s : Shape} → c ≤ N → Peeled q A k c s → (i : ℕ) → i < k → lead (A i) N < c
 peeled-left b peeled-empty i h = absurd (not-suc-le-zero h)
 peeled-left {N} {A} b (peeled-free {n} g p) i h = omega (arith, peeled-left {N = N} (omega arith) p i h)
 peeled-left {N} {A} b (peeled-pivot {k} {n} o above left p) i h =

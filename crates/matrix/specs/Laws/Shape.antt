@@ -4,7 +4,7 @@
 --   Peeled q A k n s     == the first k rows and n columns of A are a reduced matrix with the shape s
 --   top_value q A k c     == the first k entries of A's column c as a base-q number, top row most significant
 -- Assumes nothing.
-use Rattle.std.specs.Prelude.{◌≡◌, ℕ, suc, ◌-◌, ◌^◌, ◌<◌}
+use Rattle.std.specs.Prelude.{◌≡◌, ℕ, suc, ◌^◌, ◌<◌}
 use Rattle.basics.specs.Sum.{value}
 use Rattle.basics.specs.Table.{tabulate}
 use Rattle.matrix.specs.Shape.{Shape, empty, free, pivot}

@@ -19,7 +19,7 @@ pub top_value-same : (q : ℕ) (A B : ℕ → ℕ → ℕ) (k c : ℕ) → ((i :
 unfolding top_value
 top_value-same q A B k c h = table-value-same q (λ i. A i c) k (λ i. B i c) h
 
-pub peeled-same : {q k n : ℕ} {A : ℕ → ℕ → ℕ} {s : Shape} (B : ℕ → ℕ → ℕ) → ((i j : ℕ) → i < k → j < n → A i j ≡ B i j)
+pub peeled-same : {q : ℕ} {A : ℕ → ℕ → ℕ} {k n : ℕ} {s : Shape} (B : ℕ → ℕ → ℕ) → ((i j : ℕ) → i < k → j < n → A i j ≡ B i j)
     → Peeled q A k n s → Peeled q B k n s
 peeled-same B h peeled-empty = peeled-empty
 peeled-same {q} {A} B h (peeled-free {k} {n} {s} g p) =
@@ -30,29 +30,27 @@ peeled-same {q} {A} B h (peeled-pivot {k} {n} o above left p) =
     (λ i l. sym (h i n (omega arith) (le_refl (suc n))) ∙ above i l) (λ j l. sym (h k j (le_refl (suc k)) (omega arith)) ∙ left j l)
     (peeled-same B (λ i j l b. h i j (omega arith) (omega arith)) p)
 
-pub peeled-valid : {q k n : ℕ} {A : ℕ → ℕ → ℕ} {s : Shape} → Peeled q A k n s → Valid q k n s
+pub peeled-valid : {q : ℕ} {A : ℕ → ℕ → ℕ} {k n : ℕ} {s : Shape} → Peeled q A k n s → Valid q k n s
 peeled-valid peeled-empty = valid-empty
 peeled-valid {q} {A} (peeled-free {k} {n} g p) = valid-free (top_value-below q A k n g) (peeled-valid p)
 peeled-valid (peeled-pivot o above left p) = valid-pivot (peeled-valid p)
 
 -- what peeling a free column shows
-module _ {q k c : ℕ} {A : ℕ → ℕ → ℕ} {s : Shape} where
-  pub free-rest : {x : ℕ} → Peeled q A k (suc c) (free x s) → Peeled q A k c s
-  free-rest (peeled-free g p) = p
+pub free-rest : {q : ℕ} {A : ℕ → ℕ → ℕ} {k c : ℕ} {s : Shape} {x : ℕ} → Peeled q A k (suc c) (free x s) → Peeled q A k c s
+free-rest (peeled-free g p) = p
 
-  pub free-value : {x : ℕ} → Peeled q A k (suc c) (free x s) → x ≡ top_value q A k c
-  free-value (peeled-free g p) = refl
+pub free-value : {q : ℕ} {A : ℕ → ℕ → ℕ} {k c : ℕ} {s : Shape} {x : ℕ} → Peeled q A k (suc c) (free x s) → x ≡ top_value q A k c
+free-value (peeled-free g p) = refl
 
 -- and a pivot's
-module _ {q k c : ℕ} {A : ℕ → ℕ → ℕ} {s : Shape} where
-  pub pivot-rest : Peeled q A (suc k) (suc c) (pivot s) → Peeled q A k c s
-  pivot-rest (peeled-pivot o above left p) = p
+pub pivot-rest : {q : ℕ} {A : ℕ → ℕ → ℕ} {k c : ℕ} {s : Shape} → Peeled q A (suc k) (suc c) (pivot s) → Peeled q A k c s
+pivot-rest (peeled-pivot o above left p) = p
 
-  pub pivot-one : Peeled q A (suc k) (suc c) (pivot s) → A k c ≡ 1
-  pivot-one (peeled-pivot o above left p) = o
+pub pivot-one : {q : ℕ} {A : ℕ → ℕ → ℕ} {k c : ℕ} {s : Shape} → Peeled q A (suc k) (suc c) (pivot s) → A k c ≡ 1
+pivot-one (peeled-pivot o above left p) = o
 
-  pub pivot-above : Peeled q A (suc k) (suc c) (pivot s) → (i : ℕ) → i < k → A i c ≡ 0
-  pivot-above (peeled-pivot o above left p) = above
+pub pivot-above : {q : ℕ} {A : ℕ → ℕ → ℕ} {k c : ℕ} {s : Shape} → Peeled q A (suc k) (suc c) (pivot s) → (i : ℕ) → i < k → A i c ≡ 0
+pivot-above (peeled-pivot o above left p) = above
 
-  pub pivot-before : Peeled q A (suc k) (suc c) (pivot s) → (j : ℕ) → j < c → A k j ≡ 0
-  pivot-before (peeled-pivot o above left p) = left
+pub pivot-before : {q : ℕ} {A : ℕ → ℕ → ℕ} {k c : ℕ} {s : Shape} → Peeled q A (suc k) (suc c) (pivot s) → (j : ℕ) → j < c → A k j ≡ 0
+pivot-before (peeled-pivot o above left p) = left

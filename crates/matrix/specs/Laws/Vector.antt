@@ -24,7 +24,7 @@ vector empty = 0
 vector (free x s) = 2 * vector s
 vector (pivot s) = 1 + 2 * vector s
 
-pub vector-below : {q k c : ℕ} {A : ℕ → ℕ → ℕ} {s : Shape} → Peeled q A k c s → vector s < 2 ^ c
+pub vector-below : {q : ℕ} {A : ℕ → ℕ → ℕ} {k c : ℕ} {s : Shape} → Peeled q A k c s → vector s < 2 ^ c
 unfolding vector
 vector-below peeled-empty = zero-lt-suc 0
 vector-below (peeled-free {n} g p) = rw (pow-succ' 2 n) (omega (arith, vector-below p))
@@ -41,7 +41,7 @@ rows-doubled {k} {c} {A} N b p =
     (λ a h. power c (lead (A a) N) (peeled-left b p a h))
     ∙ sum-times k 2 (λ a. 2 ^ (c - 1 - lead (A a) N))
 
-pub vector-rows : {q k c : ℕ} {A : ℕ → ℕ → ℕ} {s : Shape} (N : ℕ) → c ≤ N → Peeled q A k c s
+pub vector-rows : {q : ℕ} {A : ℕ → ℕ → ℕ} {k c : ℕ} {s : Shape} (N : ℕ) → c ≤ N → Peeled q A k c s
     → vector s ≡ sum k (λ a. 2 ^ (c - 1 - lead (A a) N))
 unfolding vector sum
 vector-rows N b peeled-empty = refl

@@ -1,7 +1,7 @@
 -- The ones of an identifying vector; no part of the meaning.
 --   identifying-ones == a reduced matrix of k rows has k of them
 -- Assumes nothing.
-use Rattle.std.specs.Prelude.{◌≡◌, List, ℕ, suc, ◌-◌}
+use Rattle.std.specs.Prelude.{◌≡◌, List, ℕ, suc}
 use Rattle.std.proofs.Common.{◌∙◌, zero-le}
 use Rattle.std.proofs.Math.Nat.{sub-zero}
 use Rattle.std.specs.Int.Count.{ones}
