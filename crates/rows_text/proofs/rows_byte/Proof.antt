@@ -7,24 +7,24 @@ use Rattle.rows_text.specs.Laws.Rows.{size-bound, place-slash, place-digit, plac
 use Rattle.rows_text.proofs.rows_byte.Statement.{statement}
 use Rattle.rows_text.proofs.rows_byte.Tie as tie
 
-add_row : tie.Need-overflow-add-row
+add_row : tie.Need-overflow_add-row
 add_row c = search rules
 
-div_row : tie.Need-nonzero-div-row
+div_row : tie.Need-nonzero_div-row
 div_row c = search rules
 
-add-column : tie.Need-overflow-add-column
+add-column : tie.Need-overflow_add-column
 add-column c = search rules
 
-rem-column : tie.Need-nonzero-rem-column
+rem-column : tie.Need-nonzero_rem-column
 rem-column c = search rules
 
-returns : tie.Need-returns
+returns : tie.Need-returns-then-column-n
 returns c =
     let a = c.before.args in
-    place-slash a.n a.k a.matrix.now a.place c.before.requires.1 c.if1.true
+    place-slash a.n a.k a.matrix.now a.place c.before.requires.1 c.if-column-n.true
 
-mul-result : tie.Need-overflow-mul-result
+mul-result : tie.Need-overflow_mul-result
 mul-result c =
     let a = c.before.args in
     let p = c.before.requires in
@@ -32,7 +32,7 @@ mul-result c =
     let entry = place-entry a.n a.k a.matrix.now a.place p.1 column in
     omega (arith, size-bound a.n a.k p.0.columns p.0.rows)
 
-add-result : tie.Need-overflow-add-result
+add-result : tie.Need-overflow_add-result
 add-result c =
     let a = c.before.args in
     let p = c.before.requires in
@@ -40,7 +40,7 @@ add-result c =
     let entry = place-entry a.n a.k a.matrix.now a.place p.1 column in
     omega (arith, size-bound a.n a.k p.0.columns p.0.rows)
 
-shared-slice-read-result : tie.Need-shared-slice-read-result
+shared-slice-read-result : tie.Need-bounds-matrix-row
 shared-slice-read-result c =
     let a = c.before.before.args in
     let p = c.before.before.requires in
@@ -48,7 +48,7 @@ shared-slice-read-result c =
     let entry = place-entry a.n a.k a.matrix.now a.place p.1 column in
     omega arith
 
-add-result-2 : tie.Need-overflow-add-result-2
+add-result-2 : tie.Need-overflow_add-result-2
 add-result-2 c =
     let a = c.before.before.args in
     let p = c.before.before.requires in
@@ -56,7 +56,7 @@ add-result-2 c =
     let entry = place-entry a.n a.k a.matrix.now a.place p.1 column in
     omega (arith, p.0.digits (a.place / (a.n + 1) * a.n + a.place % (a.n + 1)) (omega arith))
 
-returns-2 : tie.Need-returns-2
+returns-2 : tie.Need-returns
 returns-2 c =
     let a = c.before.before.args in
     let p = c.before.before.requires in
@@ -64,8 +64,8 @@ returns-2 c =
     let entry = place-entry a.n a.k a.matrix.now a.place p.1 column in
     place-digit a.n a.k a.matrix.now a.place p.1 column
 
-pub rows-byte-spec : {M : Type 1} → statement M
-rows-byte-spec =
+pub rows_byte_spec : {M : Type 1} → statement M
+rows_byte_spec =
     tie.close
     (tie.spec
     add_row

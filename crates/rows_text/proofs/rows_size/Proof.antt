@@ -6,28 +6,28 @@ use Rattle.rows_text.specs.Laws.Rows.{size-bound}
 use Rattle.rows_text.proofs.rows_size.Statement.{statement}
 use Rattle.rows_text.proofs.rows_size.Tie as tie
 
-returns : tie.Need-returns
+returns : tie.Need-returns-then-k-eq0
 returns c =
-    let e : c.before.args.k ≡ 0 = c.if1.true in
+    let e : c.before.args.k ≡ 0 = c.if-k-eq0.true in
     rw e (omega arith)
 
-mul-result : tie.Need-overflow-mul-result
+mul-result : tie.Need-overflow_mul-result
 mul-result c =
     let a = c.before.args in
     let p = c.before.requires in
     omega (arith, size-bound a.n a.k p.1 p.0)
 
-sub-result : tie.Need-overflow-sub-result
+sub-result : tie.Need-overflow_sub-result
 sub-result c = search rules
 
-add-result : tie.Need-overflow-add-result
+add-result : tie.Need-overflow_add-result
 add-result c =
     let a = c.before.args in
     let p = c.before.requires in
     omega (arith, size-bound a.n a.k p.1 p.0)
 
-returns-2 : tie.Need-returns-2
+returns-2 : tie.Need-returns
 returns-2 c = search rules
 
-pub rows-size-spec : {M : Type 1} → statement M
-rows-size-spec = tie.close (tie.spec returns mul-result sub-result add-result returns-2)
+pub rows_size_spec : {M : Type 1} → statement M
+rows_size_spec = tie.close (tie.spec returns mul-result sub-result add-result returns-2)
