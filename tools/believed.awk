@@ -10,14 +10,16 @@
 #   meaning[key]                    the number of its entry in the glossary at the file's head; entry_text[file, number] that entry
 #   from[file, word]                the key that an imported word stands for; kit[file, word] the toolchain's name
 
-# The words of a line of antt or of a contract; a word that begins with a dot is a field.
+# The words of a line of antt or of a contract, without fields and without a clause's own name.
 function words(line,    i, n, w, out) {
     gsub(/[(){},;\[\]|=]/, " ", line)
-    gsub(/\342\214\234|\342\214\235|\302\253|\302\273/, " ", line)
+    gsub(/\302\253|\302\273/, " ", line)
+    sub(/^ *(requires|ensures)\*? [a-z_0-9]+  /, " ", line)
+    gsub(/\.[a-z_0-9][a-z_0-9\047-]*/, " ", line)
     n = split(line, w, /[ \t]+/)
     out = " "
     for (i = 1; i <= n; i++)
-        if (w[i] != "" && w[i] !~ /^\./) out = out w[i] " "
+        if (w[i] != "") out = out w[i] " "
     return out
 }
 
@@ -57,11 +59,11 @@ function imports(file, line,    crate, module, names, n, i, part, own, type) {
         names = ""
     module = line
     sub(/\.?\{.*/, "", module)
-    if (module ~ /^Rattle\302\267/) {
-        sub(/^Rattle\302\267/, "", module)
-        crate = module
-        sub(/[.\302].*/, "", crate)
-        sub(/^[a-z_]*(\302\267specs)?\.specs\./, "", module)
+    crate = module
+    sub(/^Rattle\./, "", crate)
+    sub(/\..*/, "", crate)
+    if (module ~ /^Rattle\./ && crate in ours) {
+        sub(/^Rattle\.[a-z_]+\.specs\./, "", module)
         if (module ~ /^declared\./) {
             type = module
             sub(/^declared\./, "", type)
@@ -93,7 +95,7 @@ function imports(file, line,    crate, module, names, n, i, part, own, type) {
             sub(/.* as /, "", own)
             sub(/ as .*/, "", part[i])
             type = own
-            gsub(/_/, "", type)
+            gsub(/\342\227\214/, "", type)
             kit[file, type == "" ? own : type] = module SUBSEP part[i]
         }
         return
@@ -103,7 +105,7 @@ function imports(file, line,    crate, module, names, n, i, part, own, type) {
         own = part[i]
         sub(/.* as /, "", own)
         sub(/ as .*/, "", part[i])
-        gsub(/_/, "", own)
+        gsub(/\342\227\214/, "", own)
         from[file, own] = module SUBSEP part[i]
     }
 }
@@ -181,7 +183,7 @@ function paragraph(file,    i, start, depth, name, key, line, statement, comment
     }
     key = add_item(file, name)
     short = name
-    gsub(/_/, "", short)
+    gsub(/\342\227\214/, "", short)
     if (short != name) alias[file, short] = key
     theorem = key in root || key in settles
     data = line ~ /^ *(pub )?(record|data) /
@@ -273,7 +275,15 @@ function glossary(file,    i, line, n, part, m, each, j, w) {
     }
 }
 
-BEGIN { sources = split(list, source, " ") }
+BEGIN {
+    sources = split(list, source, " ")
+    for (i = 1; i <= sources; i++) {
+        crate = source[i]
+        sub(/^crates\//, "", crate)
+        sub(/\/.*/, "", crate)
+        ours[crate] = 1
+    }
+}
 
 FNR == 1 {
     if (last != "" && last ~ /\.antt$/) paragraph(last)

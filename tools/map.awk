@@ -38,8 +38,8 @@ telling && /^\/\// {
     line = $0
     sub(/(\/\/|--).*/, "", line)
     rest = line
-    while (match(rest, /Rattle\302\267[a-z_]+/)) {
-        note(substr(rest, RSTART + 8, RLENGTH - 8))
+    while (match(rest, /Rattle\.[a-z_]+/)) {
+        note(substr(rest, RSTART + 7, RLENGTH - 7))
         rest = substr(rest, RSTART + RLENGTH)
     }
     if (FILENAME ~ /\.rt$/) {
@@ -71,7 +71,7 @@ declaring {
 }
 
 function note(name) {
-    if (name != here && (name in listed || name == "io" || name == "libc")) named[here, name] = 1
+    if (name != here && name in listed) named[here, name] = 1
 }
 
 function fail(what) {

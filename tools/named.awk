@@ -28,7 +28,7 @@ function name(token) {
         sub(/ .*/, "", token)
         sub(/\/$/, "", token)
         at(token, "test", token)
-    } else if (token ~ /^[a-z_]+\/(laws\/)?[A-Z][A-Za-z]*$/)
+    } else if (token ~ /^[a-z_]+\/(Laws\/)?[A-Z][A-Za-z]*$/)
         at(spec(token), "theorem", token)
     else if (token ~ /^[a-z_]+\/[a-z0-9_]+$/)
         at(edit(token), "edit", token)
