@@ -58,6 +58,7 @@ module _ {A : Type 0} where
   all_drop (suc n) (more p ps) = all_drop n ps
 
   pub all_among : {P : A → Type 0} {x : A} {xs : List A} → All P xs → Among x xs → P x
+  all_among none a = elim a [ ]
   all_among (more p ps) first = p
   all_among (more p ps) (later a) = all_among ps a
 
@@ -69,6 +70,7 @@ module _ {A : Type 0} where
   each-among xs = among-all xs (λ x a. a)
 
   pub among-append : {x : A} (xs ys : List A) → Among x xs ⊎ Among x ys → Among x (xs ++ ys)
+  among-append [] ys (inl a) = elim a [ ]
   among-append (y ∷ xs) ys (inl first) = first
   among-append (y ∷ xs) ys (inl (later a)) = later (among-append xs ys (inl a))
   among-append [] ys (inr a) = a

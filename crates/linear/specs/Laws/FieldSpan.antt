@@ -61,7 +61,7 @@ module _ {F A : Type 0} (K : Scalars F) (at : A → ℕ → F) where
   spanned-each [] = none
   spanned-each (r ∷ rows) = more (spanned-top r rows) (all_map (λ x s. spanned-below s) (spanned-each rows))
 
-  pub spanned-through : {rows others : List A} {v : ℕ → F} → All (λ r. Spanned K at others (at r)) rows → Spanned K at rows v
+  pub spanned-through : {others rows : List A} {v : ℕ → F} → All (λ r. Spanned K at others (at r)) rows → Spanned K at rows v
       → Spanned K at others v
   spanned-through {others = others} {v} none (nothing z) = spanned-nought others v z
   spanned-through {v = v} (more s ss) (adding {r = r} c w sw e) =
@@ -71,7 +71,7 @@ module _ {F A : Type 0} (K : Scalars F) (at : A → ℕ → F) where
   spanned-same v (nothing z) e = nothing (λ j. e j ∙ z j)
   spanned-same v (adding c w s eu) e = adding c w s (λ j. e j ∙ eu j)
 
-  pub spanned-at : {rows : List A} {v : ℕ → F} (j : ℕ) → All (λ r. at r j ≡ nought) rows → Spanned K at rows v → v j ≡ nought
+  pub spanned-at : (j : ℕ) {rows : List A} {v : ℕ → F} → All (λ r. at r j ≡ nought) rows → Spanned K at rows v → v j ≡ nought
   spanned-at j none (nothing z) = z j
   spanned-at j (more h hs) (adding c w s e) =
       e j ∙ ap₂ (λ x y. c ⊗ x ⊕ y) h (spanned-at j hs s) ∙ plus-nought (c ⊗ nought) ∙ times-nought c

@@ -30,26 +30,28 @@ module _ {F A : Type 0} (K : Scalars F) (at : A → ℕ → F) (lead : A → ℕ
   among-length (here h) = refl
   among-length (above h e t p) = ap suc (among-length p)
 
-  pub among-leads : {rows out : List A} (P : ℕ → Type 0) → P (lead w) → All (λ r. P (lead r)) rows → Among K at lead w rows out
+  pub among-leads : (P : ℕ → Type 0) {rows out : List A} → P (lead w) → All (λ r. P (lead r)) rows → Among K at lead w rows out
       → All (λ r. P (lead r)) out
   among-leads P h none last = more h none
   among-leads P h (more g gs) (here l) = more h (more g gs)
   among-leads P h (more g gs) (above l e t p) = more (subst P (sym e) g) (among-leads P h gs p)
 
-  pub among-spanned : {rows out others : List A} → Spanned K at others (at w) → All (λ r. Spanned K at others (at r)) rows
+  pub among-spanned : {others rows out : List A} → Spanned K at others (at w) → All (λ r. Spanned K at others (at r)) rows
       → Among K at lead w rows out → All (λ r. Spanned K at others (at r)) out
   among-spanned h none last = more h none
   among-spanned h (more g gs) (here l) = more h (more g gs)
   among-spanned h (more {x = r} g gs) (above l e t p) = more (taken_off-spanned K at (at r (lead w)) t h g) (among-spanned h gs p)
 
-  pub among-spans-new : {rows out others : List A} → All (λ r. Spanned K at others (at r)) out → Among K at lead w rows out
+  pub among-spans-new : {others out rows : List A} → All (λ r. Spanned K at others (at r)) out → Among K at lead w rows out
       → Spanned K at others (at w)
+  among-spans-new none a = elim a [ ]
   among-spans-new (more h hs) last = h
   among-spans-new (more h hs) (here l) = h
   among-spans-new (more h hs) (above l e t p) = among-spans-new hs p
 
-  pub among-spans : {rows out others : List A} → All (λ r. Spanned K at others (at r)) out → Among K at lead w rows out
+  pub among-spans : {others out rows : List A} → All (λ r. Spanned K at others (at r)) out → Among K at lead w rows out
       → All (λ r. Spanned K at others (at r)) rows
+  among-spans none a = elim a [ ]
   among-spans (more h hs) last = none
   among-spans (more h hs) (here l) = hs
   among-spans (more h hs) (above {r = r} l e t p) = more (taken_off-spans K at (at r (lead w)) t (among-spans-new hs p) h) (among-spans hs p)

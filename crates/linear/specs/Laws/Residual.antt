@@ -47,9 +47,9 @@ module _ {F A : Type 0} (K : Scalars F) (at : A → ℕ → F) where
       e j ∙ ap (λ x. at v j ⊕ minus (at v j) ⊗ x) one ∙ ap (λ x. at v j ⊕ x) (times-unit (minus (at v j))) ∙ plus-minus (at v j)
 
   module _ (lead : A → ℕ) where
-    pub residual-kept : {rows : List A} {v w : A} (j : ℕ) → All (λ r. at r j ≡ nought) rows → Residual K at lead rows v w → at w j ≡ at v j
+    pub residual-kept : (j : ℕ) {rows : List A} {v w : A} → All (λ r. at r j ≡ nought) rows → Residual K at lead rows v w → at w j ≡ at v j
     residual-kept j none done = refl
-    residual-kept {v = v} j (more {x = r} z zs) (off e t) = residual-kept j zs t ∙ taken_off-kept (at v (lead r)) e j z
+    residual-kept j {v = v} (more {x = r} z zs) (off e t) = residual-kept j zs t ∙ taken_off-kept (at v (lead r)) e j z
 
     pub residual-cleared : {lo : ℕ} {rows : List A} {v w : A} → Echelon K at lead lo rows → Residual K at lead rows v w
         → All (λ s. at w (lead s) ≡ nought) rows
@@ -58,12 +58,12 @@ module _ {F A : Type 0} (K : Scalars F) (at : A → ℕ → F) where
         more (residual-kept (lead r) (echelon-before K at lead (lead r) (omega arith) rest) t ∙ taken_off-cleared (lead r) e one)
         (residual-cleared rest t)
 
-    pub residual-spanned : {rows others : List A} {v w : A} → All (λ r. Spanned K at others (at r)) rows → Residual K at lead rows v w
+    pub residual-spanned : {others rows : List A} {v w : A} → All (λ r. Spanned K at others (at r)) rows → Residual K at lead rows v w
         → Spanned K at others (at v) → Spanned K at others (at w)
     residual-spanned none done s = s
     residual-spanned {v = v} (more {x = r} h hs) (off e t) s = residual-spanned hs t (taken_off-spanned (at v (lead r)) e h s)
 
-    pub residual-spans : {rows others : List A} {v w : A} → All (λ r. Spanned K at others (at r)) rows → Residual K at lead rows v w
+    pub residual-spans : {others rows : List A} {v w : A} → All (λ r. Spanned K at others (at r)) rows → Residual K at lead rows v w
         → Spanned K at others (at w) → Spanned K at others (at v)
     residual-spans none done s = s
     residual-spans {v = v} (more {x = r} h hs) (off e t) s = taken_off-spans (at v (lead r)) e h (residual-spans hs t s)

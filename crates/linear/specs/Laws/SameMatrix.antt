@@ -6,7 +6,7 @@
 use Rattle.std.specs.Prelude.{◌≡◌, List, ℕ, ◌≤◌, length}
 use Rattle.std.proofs.Common.{ap₂, ◌∙◌}
 use Rattle.std.proofs.Math.Path.{sym}
-use Rattle.std.proofs.Math.Logic.{Iff·rfl}
+use Rattle.std.proofs.Math.Logic.Iff
 use Rattle.field.specs.FieldLaws.{Laws}
 use Rattle.matrix.specs.Matrix.{Reduced}
 use Rattle.linear.specs.Span.{All, Row, InSpan, SameSpan, rows_of}
@@ -33,7 +33,7 @@ module _ (q : ℕ) (laws : Laws q) (n : ℕ) where
       split = rows_join n (rows-sized q n h)
 
       same : (length rs ≡ dimension q n rs) × (join rs ≡ reduced_of q n rs)
-      same = reduced_of-unique q laws n rs h (length rs) (join rs) R (λ v. rw split Iff·rfl)
+      same = reduced_of-unique q laws n rs h (length rs) (join rs) R (λ v. rw split Iff.rfl)
 
   pub within-dimension : (rows : List (List ℕ)) → All (Row q n) rows → (k : ℕ) (m : List ℕ) → Reduced q n k m
       → All (InSpan q n (rows_of n k m)) rows
