@@ -8,74 +8,74 @@ use borrow.Author.Rules.{rules}
 use Rattle.settings_line.proofs.read_line.Statement.{statement}
 use Rattle.settings_line.proofs.read_line.Tie as tie
 
-first_read : (c : tie.After-known-told)
+first_read : (c : tie.In-Number)
     → marked_at c.before.before.before.before.before.args.text.now c.before.before.before.before.before.args.at 3 comma ≡
-    Number c.before.first.given.0.0
-first_read c = sym c.before.before.before.read-marked.ensures ∙ c.before.first.given.1
+    Number c.before.in-Number.q.0.0
+first_read c = sym c.before.before.before.read_marked-first.ensures ∙ c.before.in-Number.q.1
 
-second-read : (c : tie.After-known-told2)
+second-read : (c : tie.In-Number-second)
     → let d = c.before.before.before.before in
-    marked_at d.before.before.before.before.before.args.text.now d.before.first.given.0.0.end 3 comma ≡ Number
-    c.before.second.given.0.0
-second-read c = sym c.before.before.before.read-marked2.ensures ∙ c.before.second.given.1
+    marked_at d.before.before.before.before.before.args.text.now d.before.in-Number.q.0.0.end 3 comma ≡ Number
+    c.before.in-Number-second.n.0.0
+second-read c = sym c.before.before.before.read_marked-second.ensures ∙ c.before.in-Number-second.n.1
 
-third-read : (c : tie.After-known-told3)
+third-read : (c : tie.In-Number-third)
     → let e = c.before.before.before.before in
     let d = e.before.before.before.before in
-    marked_at d.before.before.before.before.before.args.text.now e.before.second.given.0.0.end 3 line_feed ≡ Number
-    c.before.third.given.0.0
-third-read c = sym c.before.before.before.read-marked3.ensures ∙ c.before.third.given.1
+    marked_at d.before.before.before.before.before.args.text.now e.before.in-Number-second.n.0.0.end 3 line_feed ≡ Number
+    c.before.in-Number-third.k.0.0
+third-read c = sym c.before.before.before.read_marked-third.ensures ∙ c.before.in-Number-third.k.1
 
-read-marked-requires : tie.Need-read-marked-requires
+read-marked-requires : tie.Need-read_marked-first-requires
 read-marked-requires c κs = search rules
 
-enum-known-first : tie.Need-enum-known-first
+enum-known-first : tie.Need-enum_known-first
 enum-known-first c = search rules
 
-enum_told : tie.Need-enum-told
+enum_told : tie.Need-enum_told-1
 enum_told c = search rules
 
-returns : tie.Need-returns
-returns c = let d = c.before.before in sym (line_first _ _ (sym d.read-marked.ensures ∙ c.enum_told.given.1))
+returns : tie.Need-returns-in_default
+returns c = let d = c.before.before in sym (line_first _ _ (sym d.read_marked-first.ensures ∙ c.in_default.is.1))
 
-read-marked-requires-2 : tie.Need-read-marked-requires-2
+read-marked-requires-2 : tie.Need-read_marked-second-requires
 read-marked-requires-2 c κs = search rules
 
-enum-known-second : tie.Need-enum-known-second
+enum-known-second : tie.Need-enum_known-second
 enum-known-second c = search rules
 
-enum-told-2 : tie.Need-enum-told-2
+enum-told-2 : tie.Need-enum_told-in_default-second
 enum-told-2 c = search rules
 
-returns-2 : tie.Need-returns-2
+returns-2 : tie.Need-returns-in_default-second
 returns-2 c =
     let d = c.before.before in
-    sym (line_second _ _ _ (first_read d.before) (sym d.read-marked2.ensures ∙ c.enum-told2.given.1))
+    sym (line_second _ _ _ (first_read d.before) (sym d.read_marked-second.ensures ∙ c.enum_told-in_default-second-1.given.1))
 
-read-marked-requires-3 : tie.Need-read-marked-requires-3
+read-marked-requires-3 : tie.Need-read_marked-third-requires
 read-marked-requires-3 c κs = search rules
 
-enum-known-third : tie.Need-enum-known-third
+enum-known-third : tie.Need-enum_known-third
 enum-known-third c = search rules
 
-enum-told-3 : tie.Need-enum-told-3
+enum-told-3 : tie.Need-enum_told-in_default-third
 enum-told-3 c = search rules
 
-returns-3 : tie.Need-returns-3
+returns-3 : tie.Need-returns-in_default-third
 returns-3 c =
     let d = c.before.before in
     let e = d.before in
     sym
     (line-third _ _ _ (first_read e.before.before.before.before) _ (second-read e)
-    (sym d.read-marked3.ensures ∙ c.enum-told3.given.1))
+    (sym d.read_marked-third.ensures ∙ c.enum_told-in_default-third-1.given.1))
 
-returns-4 : tie.Need-returns-4
+returns-4 : tie.Need-returns
 returns-4 c =
     let e = c.before.before.before.before in
     sym (line-whole _ _ _ (first_read e.before.before.before.before) _ (second-read e) _ (third-read c))
 
-pub read-line-spec : {M : Type 1} → statement M
-read-line-spec =
+pub read_line_spec : {M : Type 1} → statement M
+read_line_spec =
     tie.close
     (tie.spec
     read-marked-requires

@@ -1,4 +1,0 @@
-pub mod Again
-pub mod Thin
-pub mod Lent
-pub mod Compose
