@@ -9,7 +9,7 @@ use Rattle.std.proofs.Math.ListN.{length, drop, length-append}
 use Rattle.text.specs.Text.{comma, line_feed, numeral}
 use Rattle.settings_line.specs.Decimal.{is_digit, marked_at}
 use Rattle.settings_line.specs.SettingsLine.{settings_line, BeginsLine, next, line_at}
-use Rattle.settings_line.specs.Laws.Marked.{marked-is, Reads, marked-reads}
+use Rattle.settings_line.specs.Laws.Marked.{marked-is, marked-reads}
 use Rattle.settings_line.specs.Laws.Parse.{line-whole}
 use Rattle.settings_line.specs.declared.decimal.Numeral.{Numeral}
 use Rattle.settings_line.specs.declared.decimal.Decimal.{Decimal}
@@ -17,7 +17,7 @@ use Rattle.settings_line.specs.declared.decimal.Decimal.TheVariants.{Number, Non
 use Rattle.settings_line.specs.declared.Settings.{Settings}
 use Rattle.settings_line.specs.declared.Line.{Line}
 use Rattle.settings_line.specs.declared.Found.{Found}
-use Rattle.settings_line.specs.declared.Found.TheVariants.{Line as line, None as nothing}
+use Rattle.settings_line.specs.declared.Found.TheVariants.{Line as line}
 
 -- what was read before a line was found
 record Before (d : Decimal) (more : Numeral → Found) (l : Line) : Type 0 where

@@ -5,7 +5,6 @@ use mathlib.Core.Bool.{true}
 use Prim.Native.Nat.{◌-◌}
 use native.Mathlib.Omega.{arith}
 use borrow.Author.Rules.{rules}
-use borrow.Author.Tests.{not-true, not-false}
 use lib.ListN.{length, get_or}
 use Rattle.settings_line.specs.Decimal.{is_digit}
 use Rattle.settings_line.specs.Laws.ReadDigits.{digit-bounds, run_end, run-stop, Running, running-start, running_more, running-done}
@@ -21,7 +20,7 @@ decreases-loop text at value₀ i₀ value i = length text - i
 
 digit : (c : tie.After-shared_slice_known-in-loop-i-2-1 invariant-loop decreases-loop)
     → let l = c.before.before.before.before.before in is_digit (get_or l.before.before.args.text.now l.loop-i.i 0) ≡ true
-digit c = sym c.before.before.is_digit.ensures ∙ not-false _ c.before.if-not-is_digit.false
+digit c = sym c.before.before.is_digit.ensures ∙ c.before.if-not-is_digit.false
 
 loop-holds : tie.Need-loop-i-init invariant-loop decreases-loop
 loop-holds c = running-start _ _
@@ -37,7 +36,7 @@ returns c =
     let l = c.before.before.before.before in
     sym
     (running-done _ _ _ _ l.loop-i.invariant
-    (run-stop _ _ c.before.before.before.loop-i-test.true (sym c.before.is_digit.ensures ∙ not-true _ c.if-not-is_digit.true)))
+    (run-stop _ _ c.before.before.before.loop-i-test.true (sym c.before.is_digit.ensures ∙ c.if-not-is_digit.true)))
 
 shared-slice-read-digit : tie.Need-bounds-text-i-in-loop-i invariant-loop decreases-loop
 shared-slice-read-digit c = omega arith
