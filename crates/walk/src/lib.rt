@@ -8,7 +8,7 @@ ghost use Rattle.walk.specs.Walk.{bounded, ended, walked, oversized as oversized
 
 // What is known of the row that is being read: the column of its next entry, its greatest entry so far, and a code of two bits for each
 // column from the left: 0 or 1 as the entry is, 2 where it is more.
-#[derive(Drop)]
+#[derive(Clone, Copy)]
 pub struct Row {
     pub column: usize,
     pub greatest: u16,
@@ -17,7 +17,7 @@ pub struct Row {
 
 // What is known of the rows that have ended: the least number above their entries, their codes joined bit by bit, the least column where
 // the next row's pivot may stand, whether they are reduced, and then their identifying vector, else 0.
-#[derive(Drop)]
+#[derive(Clone, Copy)]
 pub struct Walk {
     pub bound: u32,
     pub code: u32,

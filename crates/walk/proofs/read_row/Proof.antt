@@ -9,52 +9,52 @@ use Rattle.walk.specs.Laws.RowRead.{row_read_lem, read-room}
 use Rattle.walk.proofs.read_row.Statement.{statement}
 use Rattle.walk.proofs.read_row.Tie as tie
 
-abbrev invariant-loop : tie.invariant-loop
+abbrev invariant-loop : tie.invariant-loop-j
 invariant-loop m n i row₀ j₀ row j = (j ≤ n) × (row ≡ row_read n m i j)
 
-abbrev decreases-loop : tie.decreases-loop
+abbrev decreases-loop : tie.decreases-loop-j
 decreases-loop m n i row₀ j₀ row j = n - j
 
-loop-holds : tie.Need-loop-init invariant-loop decreases-loop
+loop-holds : tie.Need-loop-j-init invariant-loop decreases-loop
 unfolding row_read
 loop-holds c = (omega arith, refl)
 
-mul-enter : tie.Need-overflow-mul-enter invariant-loop decreases-loop
+mul-enter : tie.Need-overflow_mul-i invariant-loop decreases-loop
 mul-enter c = omega arith
 
-add-enter : tie.Need-overflow-add-enter invariant-loop decreases-loop
+add-enter : tie.Need-overflow_add-i invariant-loop decreases-loop
 add-enter c = omega arith
 
-shared-slice-read-enter : tie.Need-shared-slice-read-enter invariant-loop decreases-loop
+shared-slice-read-enter : tie.Need-bounds-m-i invariant-loop decreases-loop
 shared-slice-read-enter c = omega arith
 
-enter-requires : tie.Need-enter-requires invariant-loop decreases-loop
+enter-requires : tie.Need-enter-row-requires invariant-loop decreases-loop
 enter-requires c κs =
     let l = c.before.before in
     let a = l.before.before.args in
-    rw l.loop.invariant.1 (read-room (row_read_lem a.n a.m.now a.i l.loop.j) (omega arith))
+    rw l.loop-j.invariant.1 (read-room (row_read_lem a.n a.m.now a.i l.loop-j.j) (omega arith))
 
-add-j : tie.Need-overflow-add-j invariant-loop decreases-loop
+add-j : tie.Need-overflow_add-j invariant-loop decreases-loop
 add-j c = omega arith
 
-loop-less : tie.Need-loop-smaller invariant-loop decreases-loop
+loop-less : tie.Need-loop-j-smaller invariant-loop decreases-loop
 loop-less c = omega arith
 
-loop-again : tie.Need-loop-preserved invariant-loop decreases-loop
+loop-again : tie.Need-loop-j-preserved invariant-loop decreases-loop
 unfolding row_read
 loop-again c =
     let l = c.before.before.before in
     let a = l.before.before.args in
-    (omega arith, rw add-one (c.enter.ensures ∙ ap (λ r. entered r (entry a.n a.m.now a.i l.loop.j)) l.loop.invariant.1))
+    (omega arith, rw add-one (c.enter-row.ensures ∙ ap (λ r. entered r (entry a.n a.m.now a.i l.loop-j.j)) l.loop-j.invariant.1))
 
 returns : tie.Need-returns invariant-loop decreases-loop
 returns c =
     let l = c.before in
     let a = l.before.before.args in
-    l.loop.invariant.1 ∙ ap (row_read a.n a.m.now a.i) (omega arith)
+    l.loop-j.invariant.1 ∙ ap (row_read a.n a.m.now a.i) (omega arith)
 
-pub read-row-spec : {M : Type 1} → statement M
-read-row-spec =
+pub read_row_spec : {M : Type 1} → statement M
+read_row_spec =
     tie.close
     (tie.spec
     invariant-loop

@@ -9,49 +9,49 @@ use Rattle.walk.specs.Laws.Ended.{room-walked}
 use Rattle.walk.proofs.rows.Statement.{statement}
 use Rattle.walk.proofs.rows.Tie as tie
 
-abbrev invariant-loop : tie.invariant-loop
+abbrev invariant-loop : tie.invariant-loop-i
 invariant-loop m n k walk₀ i₀ walk i = (i ≤ k) × (walk ≡ walked 32 n m i)
 
-abbrev decreases-loop : tie.decreases-loop
+abbrev decreases-loop : tie.decreases-loop-i
 decreases-loop m n k walk₀ i₀ walk i = k - i
 
-loop-holds : tie.Need-loop-init invariant-loop decreases-loop
+loop-holds : tie.Need-loop-i-init invariant-loop decreases-loop
 unfolding walked
 loop-holds c = (omega arith, refl)
 
-read-row-requires : tie.Need-read-row-requires invariant-loop decreases-loop
+read-row-requires : tie.Need-read_row-requires invariant-loop decreases-loop
 read-row-requires c κs =
     let l = c.before in
     let a = l.before.before.args in
-    (l.before.before.requires.0, omega (arith, row_fits l.loop.i a.k a.n (omega arith), l.before.before.requires.1))
+    (l.before.before.requires.0, omega (arith, row_fits l.loop-i.i a.k a.n (omega arith), l.before.before.requires.1))
 
-end-row-requires : tie.Need-end-row-requires invariant-loop decreases-loop
+end-row-requires : tie.Need-end_row-walk-requires invariant-loop decreases-loop
 end-row-requires c κs =
     let l = c.before.before in
     let a = l.before.before.args in
-    (l.before.before.requires.0, rw l.loop.invariant.1 (room-walked 32 a.n a.m.now l.loop.i))
+    (l.before.before.requires.0, rw l.loop-i.invariant.1 (room-walked 32 a.n a.m.now l.loop-i.i))
 
-add-i : tie.Need-overflow-add-i invariant-loop decreases-loop
+add-i : tie.Need-overflow_add-i invariant-loop decreases-loop
 add-i c = omega arith
 
-loop-less : tie.Need-loop-smaller invariant-loop decreases-loop
+loop-less : tie.Need-loop-i-smaller invariant-loop decreases-loop
 loop-less c = omega arith
 
-loop-again : tie.Need-loop-preserved invariant-loop decreases-loop
+loop-again : tie.Need-loop-i-preserved invariant-loop decreases-loop
 unfolding walked
 loop-again c =
     let l = c.before.before.before in
     let a = l.before.before.args in
-    (omega arith, rw add-one (c.End-row.ensures ∙ ap₂ (ended 32 a.n) l.loop.invariant.1 c.before.read-row.ensures))
+    (omega arith, rw add-one (c.end_row-walk.ensures ∙ ap₂ (ended 32 a.n) l.loop-i.invariant.1 c.before.read_row.ensures))
 
 returns : tie.Need-returns invariant-loop decreases-loop
 returns c =
     let l = c.before in
     let a = l.before.before.args in
-    l.loop.invariant.1 ∙ ap (walked 32 a.n a.m.now) (omega arith)
+    l.loop-i.invariant.1 ∙ ap (walked 32 a.n a.m.now) (omega arith)
 
-pub rows-spec : {M : Type 1} → statement M
-rows-spec =
+pub rows_spec : {M : Type 1} → statement M
+rows_spec =
     tie.close
     (tie.spec
     invariant-loop

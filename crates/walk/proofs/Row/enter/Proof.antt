@@ -17,7 +17,7 @@ placed c =
     let a = s.args in
     ap (λ d. d * 2 ^ (2 * a.self.column) % 4294967296) c.digit.ensures ∙ shifted-digit a.x a.self.column s.requires.0
 
-add-t3 : tie.Need-overflow-add-t3
+add-t3 : tie.Need-overflow_add-result
 add-t3 c = search rules
 
 greater-requires : tie.Need-greater-requires
@@ -26,16 +26,16 @@ greater-requires c κs = search rules
 digit-requires : tie.Need-digit-requires
 digit-requires c κs = search rules
 
-mul-t7 : tie.Need-overflow-mul-t7
+mul-t7 : tie.Need-overflow_mul-result
 mul-t7 c = search rules
 
-cast-t8 : tie.Need-overflow-cast-t8
+cast-t8 : tie.Need-overflow_cast-result
 cast-t8 c = search rules
 
-shl-t9 : tie.Need-overflow-shl-t9
+shl-t9 : tie.Need-overflow_shl-result
 shl-t9 c = search rules
 
-add-t10 : tie.Need-overflow-add-t10
+add-t10 : tie.Need-overflow_add-result-2
 add-t10 c =
     let s = c.before.before.before.before.before in
     let a = s.args in

@@ -5,7 +5,6 @@ use Prim.Native.Nat.{◌-◌, ◌^◌, ◌/◌, ◌≤◌}
 use native.Mathlib.Numerals.{add-one}
 use native.Mathlib.Omega.{arith}
 use borrow.Author.Rules.{rules}
-use borrow.Author.Tests.{not-true, not-false}
 use lib.Count.{count_trailing_zeros, trailing_le}
 use lib.Pow.{pow_mono, pow_pos}
 use Rattle.walk.specs.Walk.{extends}
@@ -13,30 +12,30 @@ use Rattle.walk.specs.Laws.Ended.{extends-of, ended-broken, ended-sound, room_fo
 use Rattle.walk.proofs.Walk.end_row.Statement.{statement}
 use Rattle.walk.proofs.Walk.end_row.Tie as tie
 
-cast-zeros : tie.Need-overflow-cast-zeros
+cast-zeros : tie.Need-overflow_cast-zeros
 cast-zeros c = omega (arith, trailing_le 32 c.before.args.row.code)
 
-bound-with-requires : tie.Need-bound-with-requires
+bound-with-requires : tie.Need-bound_with-bound-requires
 bound-with-requires c κs = search rules
 
 extends-requires : tie.Need-extends-requires
 extends-requires c κs = search rules
 
-returns : tie.Need-returns
+returns : tie.Need-returns-then-not-extends
 returns c =
     let a = c.before.before.before.before.before.before.args in
-    ended-broken 32 a.n a.self a.row _ refl (sym c.before.extends.ensures ∙ not-true _ c.if1.true) _
-    c.before.before.before.before.bound-with.ensures
+    ended-broken 32 a.n a.self a.row _ refl (sym c.before.extends.ensures ∙ c.if-not-extends.true) _
+    c.before.before.before.before.bound_with-bound.ensures
 
 -- the row extends the rows above
-sound : (c : tie.Else1) → let a = c.before.before.before.before.before.before.args in
+sound : (c : tie.Else-not-extends) → let a = c.before.before.before.before.before.before.args in
     extends a.n a.self (count_trailing_zeros 32 a.row.code) ≡ true
-sound c = sym c.before.extends.ensures ∙ not-false _ c.if1.false
+sound c = sym c.before.extends.ensures ∙ c.if-not-extends.false
 
-add-t11 : tie.Need-overflow-add-t11
+add-t11 : tie.Need-overflow_add-result
 add-t11 c = omega (arith, trailing_le 32 c.before.before.before.before.before.before.args.row.code)
 
-add-pivot-requires : tie.Need-add-pivot-requires
+add-pivot-requires : tie.Need-add_pivot-requires
 add-pivot-requires c κs =
     let s = c.before.before.before.before.before.before in
     let a = s.args in
@@ -53,16 +52,16 @@ add-pivot-requires c κs =
       ),
     )
 
-returns-2 : tie.Need-returns-2
+returns-2 : tie.Need-returns
 returns-2 c =
     let d = c.before in
     let a = d.before.before.before.before.before.before.args in
     rw add-one
-    (ended-sound 32 a.n a.self a.row _ refl (sound d) _ _ d.before.before.before.before.bound-with.ensures
-    c.add-pivot.ensures)
+    (ended-sound 32 a.n a.self a.row _ refl (sound d) _ _ d.before.before.before.before.bound_with-bound.ensures
+    c.add_pivot.ensures)
 
-pub end-row-spec : {M : Type 1} → statement M
-end-row-spec =
+pub end_row_spec : {M : Type 1} → statement M
+end_row_spec =
     tie.close
     (tie.spec
     cast-zeros
