@@ -10,7 +10,7 @@ ghost use Rattle.extended.specs.Extended.{extended_index};
 ghost use Rattle.extended.specs.Drawn.{drawn_extended};
 
 // An index of the extended numbering; it never stands for a Ferrers index.
-#[derive(Drop)]
+#[derive(Clone, Copy)]
 pub struct ExtendedIndex(pub u64);
 
 // The number of ones among the j lowest bits of v: among the columns 1 to j of an identifying vector. The mask is made in 32 bits, so

@@ -15,7 +15,7 @@ ghost use Rattle.ferrers.specs.Laws.VectorAt.{diagram_vector};
 ghost use Rattle.ferrers.specs.Laws.WriteMatrix.{Shaped};
 
 // An index of the Ferrers numbering; it never stands for an extended index.
-#[derive(Drop)]
+#[derive(Clone, Copy)]
 pub struct FerrersIndex(pub u64);
 
 // The number of spaces whose diagrams have m dots; the box has room for `limit` dots, and its counts begin at `begin`.

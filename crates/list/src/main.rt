@@ -3,13 +3,13 @@
 // standard error.
 #![tactic(auto)]
 
-ghost use Rattle.std.specs.Prelude.{◌≡◌, true};
+ghost use Rattle.std.specs.Prelude.{◌≡◌, ◌≤◌, length, true};
 ghost use Rattle.listing.specs.declared.State.TheVariants.{Done};
 ghost use Rattle.listing.specs.Listing.{listing_output};
 ghost use Rattle.listing.specs.Steps.{begun, state_after, chunks};
 
-use libc::{STDERR_FILENO, STDIN_FILENO, STDOUT_FILENO};
 use listing::State;
+use std::io::Read;
 
 // The state after so many steps, and whether the chunk of each was written.
 #[derive(Drop)]
@@ -20,7 +20,7 @@ struct Ended {
 }
 
 // Writes chunk after chunk until one is empty or is not written.
-fn write_listing(begin: State) -> Ended
+fn write_listing(out: &impl Print, begin: State) -> Ended
     ensures { (result.state ≡ state_after result.steps begin) × (result.written ≡ true → result.state ≡ Done) }
 {
     let mut state = begin;
@@ -38,7 +38,7 @@ fn write_listing(begin: State) -> Ended
                 written: true,
             };
         }
-        if !io::write_all(STDOUT_FILENO, &chunk[..size]) {
+        if out.write_all(&chunk[..size]).is_err() {
             return Ended {
                 state,
                 steps,
@@ -54,21 +54,33 @@ fn write_listing(begin: State) -> Ended
 }
 
 // Lists for an input. Where every chunk was written, the chunks are the output.
-fn list(input: &[u8]) -> Ended
+fn list(out: &impl Print, input: &[u8]) -> Ended
     ensures { (result.state ≡ state_after result.steps (begun input.now))
         × (result.written ≡ true → chunks result.steps (begun input.now) ≡ listing_output input.now) }
 {
-    write_listing(listing::begin(input))
+    write_listing(out, listing::begin(input))
 }
 
-fn main() {
+// Reads until the buffer is full, the input ends or a read fails. Answers how many bytes it put at the buffer's start.
+fn read_full(from: &mut impl Read, buffer: &mut [u8]) -> usize
+    ensures { result ≤ length buffer.new }
+{
+    let mut done = 0;
+    while done < buffer.len() {
+        match from.read(&mut buffer[done..]) {
+            Ok(0) => break,
+            Ok(n) => done += n,
+            Err(_) => break,
+        }
+    }
+    done
+}
+
+fn main(rt: HostRuntime) {
     let mut input = [0u8; settings_line::DECISIVE];
-    let size = io::read_full(STDIN_FILENO, &mut input);
-    let ended = list(&input[..size]);
+    let size = read_full(&mut rt.stdin(), &mut input);
+    let ended = list(&rt, &input[..size]);
     if !ended.written {
-        io::write_all(
-            STDERR_FILENO,
-            b"list: a write failed, so the listing is not whole\n",
-        );
+        let _ = rt.eprintln("list: a write failed, so the listing is not whole");
     }
 }
