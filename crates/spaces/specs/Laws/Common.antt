@@ -9,7 +9,7 @@ use Rattle.std.specs.Prelude.{◌≡◌, refl, List, ◌++◌, ◌↔◌, ◌⊎
 use Rattle.std.proofs.Math.Path.{ap, sym}
 use Rattle.std.proofs.Common.{ap₂, ◌∙◌, subst, inl, inr}
 use Rattle.std.proofs.Math.Bool.{true, false}
-use Prim.Native.Nat.{ℕ, ◌+◌, ◌-◌, ◌≤◌, ◌<◌, Fin}
+use Prim.Native.Nat.{ℕ, ◌+◌, ◌≤◌, ◌<◌, Fin}
 use Rattle.std.proofs.Math.ListN.{length}
 use Rattle.basics.specs.Laws.Order.{le-or-lt}
 use Rattle.field.specs.FieldLaws.{Laws}

@@ -53,6 +53,7 @@ module _ (q : ℕ) (laws : Laws q) (n : ℕ) where
       where
         only : {row : List ℕ} → Among row (x ∷ []) → Among row (x ∷ ws)
         only first = first
+        only (later a) = elim a [ ]
 
     moved-dimension : dimension q n (us ++ (x ∷ ws)) ≡ dimension q n ((us ++ ws) ++ (x ∷ []))
     moved-dimension =

@@ -120,7 +120,7 @@ module _ (q : ℕ) (laws : Laws q) (n : ℕ) where
       (at-half r (lead_of (n + n) r - n) ∙ ap (at q laws r) (omega arith) ∙ one)
 
   -- r is 0 at the leads of all right halves
-  halves-clear : {lo : ℕ} (r : List ℕ) {rs : List (List ℕ)} → n ≤ lo → All (Row q (n + n)) rs → EchelonRows q laws (n + n) lo rs
+  halves-clear : (r : List ℕ) {rs : List (List ℕ)} {lo : ℕ} → n ≤ lo → All (Row q (n + n)) rs → EchelonRows q laws (n + n) lo rs
       → All (λ s. at q laws r (lead_of (n + n) s) ≡ nought) rs
       → All (λ s. at q laws (drop n r) (lead_of n s) ≡ nought) (right_halves n rs)
   unfolding right_halves
@@ -132,7 +132,7 @@ module _ (q : ℕ) (laws : Laws q) (n : ℕ) where
       ∙ ap (at q laws r) (ap (λ x. n + x) (half-lead s h (omega arith) one) ∙ omega arith) ∙ z)
       (halves-clear r (omega arith) hs rest zs))
 
-  pub halves-echelon : {lo : ℕ} {rs : List (List ℕ)} → All (Row q (n + n)) rs → EchelonRows q laws (n + n) lo rs
+  pub halves-echelon : {rs : List (List ℕ)} {lo : ℕ} → All (Row q (n + n)) rs → EchelonRows q laws (n + n) lo rs
       → EchelonRows q laws n (lo - n) (right_halves n rs)
   unfolding right_halves
   halves-echelon none empty = empty

@@ -31,12 +31,12 @@ module _ {F A : Type 0} (K : Scalars F) (at : A → ℕ → F) (lead : A → ℕ
       before : (j : ℕ) → j < n → All (λ t. at t j ≡ nought) rs
       before j h = echelon-before K at lead j (omega (arith, ltb-false (lead r) n e)) (echelon-tail K at lead ech)
 
-  pub right-spanned : {lo : ℕ} {rs : List A} {x : ℕ → F} → Echelon K at lead lo rs → Spanned K at rs x
+  pub right-spanned : {rs : List A} {lo : ℕ} {x : ℕ → F} → Echelon K at lead lo rs → Spanned K at rs x
       → ((j : ℕ) → j < n → x j ≡ nought) → Spanned K at (right_rows lead n rs) x
   unfolding right_rows
   right-spanned {rs = []} ech s z = s
   right-spanned {rs = r ∷ rs} ech s z =
-      right-step ech s z (λ w t y. right-spanned (echelon-tail K at lead ech) t y) (ltb (lead r) n) refl
+      right-step ech s z (λ w t y. right-spanned {rs = rs} (echelon-tail K at lead ech) t y) (ltb (lead r) n) refl
 
   right-back : (r : A) (rs : List A) {x : ℕ → F} → ((w : ℕ → F) → Spanned K at (right_rows lead n rs) w → Spanned K at rs w)
       → (b : Bool) → Spanned K at (pick b (right_rows lead n rs) (r ∷ right_rows lead n rs)) x → Spanned K at (r ∷ rs) x
