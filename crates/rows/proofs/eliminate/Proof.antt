@@ -27,52 +27,52 @@ below c =
     let a = c.args in
     rw (entry c) (row_below a.q (laws a.q c.requires.0.0) a.n c.requires.0.3 _)
 
-add-entry : tie.Need-overflow-add-entry
+add-entry : tie.Need-overflow_add-entry
 add-entry c = search rules
 
-slice-read-entry : tie.Need-slice-read-entry
+slice-read-entry : tie.Need-bounds-m-to
 slice-read-entry c = search rules
 
-negate-requires : tie.Need-negate-requires
+negate-requires : tie.Need-negate-c-requires
 negate-requires c κs =
     let b = c.before.before.before in
     (b.requires.0.0, below b)
 
-add-scaled-requires : tie.Need-add-scaled-requires
+add-scaled-requires : tie.Need-add_scaled-requires
 add-scaled-requires c κs =
     let b = c.before.before.before.before.before in
     let a = b.args in
     let p = b.requires.0 in
     let law = laws a.q p.0 in
-    let factor = c.before.negate.ensures ∙ ap (negate a.q) (entry b) in
-    let negative : c.before.negate.result < a.q = rw factor (law.negate-below _ (row_below a.q law a.n p.3 _)) in
+    let factor = c.before.negate-c.ensures ∙ ap (negate a.q) (entry b) in
+    let negative : c.before.negate-c.result < a.q = rw factor (law.negate-below _ (row_below a.q law a.n p.3 _)) in
     ((p.0, omega (arith, below b, negative), p.2, p.3, p.4), (b.requires.1.0, b.requires.1.1))
 
-same_length : tie.Need-same-length
+same_length : tie.Need-shape_of-m
 same_length c = search rules
 
-returns : tie.Need-returns
+returns : tie.Need-returns-then-entry-ne0
 unfolding eliminate plus_multiple
 returns c =
     let b = c.before.before.before.before.before.before.before.before in
     let a = b.args in
-    let factor = c.before.before.before.before.negate.ensures ∙ ap (negate a.q) (entry b) in
+    let factor = c.before.before.before.before.negate-c.ensures ∙ ap (negate a.q) (entry b) in
     let r = part a.n a.from a.m.now in
     let v = part a.n a.to a.m.now in
-    c.before.before.add-scaled.ensures ∙ ap (λ x. put a.n a.to (plus_multiple a.q a.n x r v) a.m.now) factor
+    c.before.before.add_scaled.ensures ∙ ap (λ x. put a.n a.to (plus_multiple a.q a.n x r v) a.m.now) factor
 
-returns-2 : tie.Need-returns-2
+returns-2 : tie.Need-returns-else-entry-ne0
 returns-2 c =
     let b = c.before.before.before in
     let a = b.args in
     let p = b.requires.0 in
     sym
     (ap (λ w. put a.n a.to w a.m.now)
-    (eliminate-nothing a.q (laws a.q p.0) a.n _ _ p.2 p.3 (sym (entry b) ∙ c.if1.false))
+    (eliminate-nothing a.q (laws a.q p.0) a.n _ _ p.2 p.3 (sym (entry b) ∙ c.if-entry-ne0.false))
     ∙ put_same a.n a.to a.m.now)
 
-pub eliminate-spec : {M : Type 1} → statement M
-eliminate-spec =
+pub eliminate_spec : {M : Type 1} → statement M
+eliminate_spec =
     tie.close
     (tie.spec
     add-entry

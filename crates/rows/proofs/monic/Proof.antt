@@ -14,18 +14,18 @@ use Rattle.rows.proofs.monic.Statement.{statement}
 use Rattle.rows.proofs.monic.Tie as tie
 
 -- the factor is the inverse of the entry at the lead
-factor : (c : tie.After-invert) →
+factor : (c : tie.After-invert-c) →
     let a = c.before.before.before.before.args in
-    c.invert.result ≡ invert a.q (get_or a.v.now (lead_of a.n a.v.now) 0)
+    c.invert-c.result ≡ invert a.q (get_or a.v.now (lead_of a.n a.v.now) 0)
 factor c =
     let b = c.before.before.before.before in
     let a = b.args in
-    c.invert.ensures ∙ ap (λ x. invert a.q (get_or a.v.now x 0)) b.requires.2
+    c.invert-c.ensures ∙ ap (λ x. invert a.q (get_or a.v.now x 0)) b.requires.2
 
-slice-read-pivot : tie.Need-slice-read-pivot
+slice-read-pivot : tie.Need-bounds-v-p
 slice-read-pivot c = search rules
 
-invert-requires : tie.Need-invert-requires
+invert-requires : tie.Need-invert-c-requires
 invert-requires c κs =
     let b = c.before.before.before in
     let a = b.args in
@@ -37,27 +37,27 @@ scale-requires c κs =
     let a = b.args in
     let law = laws a.q b.requires.0 in
     let below : get_or a.v.now a.p 0 < a.q = row_below a.q law a.n b.requires.1 a.p in
-    let inverse : c.before.invert.result < a.q =
+    let inverse : c.before.invert-c.result < a.q =
     rw (factor c.before) (law.invert-below _ (row_below a.q law a.n b.requires.1 _)) in
     (b.requires.0, omega (arith, below, inverse), b.requires.1)
 
-same_length : tie.Need-same-length
+same_length : tie.Need-shape_of-v
 same_length c = search rules
 
-returns : tie.Need-returns
+returns : tie.Need-returns-then-pivot-ne1
 unfolding monic multiple
 returns c =
     let i = c.before.before.before.before in
     let a = i.before.before.before.before.args in
     c.before.before.scale.ensures ∙ ap (λ x. multiple a.q a.n x a.v.now) (factor i)
 
-returns-2 : tie.Need-returns-2
+returns-2 : tie.Need-returns-else-pivot-ne1
 returns-2 c =
     let s = c.before.before.before in
     let a = s.args in
-    let one : get_or a.v.now (lead_of a.n a.v.now) 0 ≡ 1 = ap (λ j. get_or a.v.now j 0) (sym s.requires.2) ∙ c.if1.false in
+    let one : get_or a.v.now (lead_of a.n a.v.now) 0 ≡ 1 = ap (λ j. get_or a.v.now j 0) (sym s.requires.2) ∙ c.if-pivot-ne1.false in
     monic-same a.q (laws a.q s.requires.0) a.n a.v.now s.requires.1 one
 
-pub monic-spec : {M : Type 1} → statement M
-monic-spec =
+pub monic_spec : {M : Type 1} → statement M
+monic_spec =
     tie.close (tie.spec slice-read-pivot invert-requires scale-requires same_length returns returns-2)

@@ -15,13 +15,13 @@ use borrow.Author.Rules.{rules}
 use Rattle.rows.proofs.scale.Statement.{statement}
 use Rattle.rows.proofs.scale.Tie as tie
 
-is-polynomial-requires : tie.Need-is-polynomial-requires
+is-polynomial-requires : tie.Need-is_polynomial-requires
 is-polynomial-requires c κs = c.before.requires.0
 
-polynomial : (c : tie.Then1) → T (is_polynomial c.before.before.before.args.q)
-polynomial c = holds _ (sym c.before.is-polynomial.ensures ∙ c.if1.true)
+polynomial : (c : tie.Then-is_polynomial) → T (is_polynomial c.before.before.before.args.q)
+polynomial c = holds _ (sym c.before.is_polynomial.ensures ∙ c.if-is_polynomial.true)
 
-add-polynomials-requires : tie.Need-add-polynomials-requires
+add-polynomials-requires : tie.Need-add_polynomials-requires
 add-polynomials-requires c κs =
     let t = c.before in
     let s = t.before.before.before in
@@ -33,32 +33,32 @@ add-polynomials-requires c κs =
       (sized, sized, polynomial t),
     )
 
-scale-numbers-requires : tie.Need-scale-numbers-requires
+scale-numbers-requires : tie.Need-scale_numbers-requires
 scale-numbers-requires c κs =
     let i = c.before.before in
     let s = i.before.before in
-    (s.requires.0, s.requires.1, s.requires.2, sym i.is-polynomial.ensures ∙ c.before.if1.false)
+    (s.requires.0, s.requires.1, s.requires.2, sym i.is_polynomial.ensures ∙ c.before.if-is_polynomial.false)
 
-same_length : tie.Need-same-length
+same_length : tie.Need-shape_of-v-then-is_polynomial
 same_length c = search rules
 
-returns : tie.Need-returns
+returns : tie.Need-returns-then-is_polynomial
 returns c =
     let l = c.before.before in
     let t = l.before.before in
     let s = t.before.before.before in
     let a = s.args in
-    l.add-polynomials.ensures
+    l.add_polynomials.ensures
     ∙ scaled-sum a.q a.n a.c (laws a.q s.requires.0) (polynomial t) s.requires.1 a.v.now s.requires.2
 
-same-length-2 : tie.Need-same-length-2
+same-length-2 : tie.Need-shape_of-v-else-is_polynomial
 same-length-2 c = search rules
 
-returns-2 : tie.Need-returns-2
-returns-2 c = c.before.before.scale-numbers.ensures
+returns-2 : tie.Need-returns-else-is_polynomial
+returns-2 c = c.before.before.scale_numbers.ensures
 
-pub scale-spec : {M : Type 1} → statement M
-scale-spec =
+pub scale_spec : {M : Type 1} → statement M
+scale_spec =
     tie.close
     (tie.spec
     is-polynomial-requires

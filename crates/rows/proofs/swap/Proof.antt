@@ -8,72 +8,72 @@ use Rattle.rows.specs.Laws.Raise.{exchanged, exchanged-none, exchanged-more, exc
 use Rattle.rows.proofs.swap.Statement.{statement}
 use Rattle.rows.proofs.swap.Tie as tie
 
-abbrev invariant-loop : tie.invariant-loop
+abbrev invariant-loop : tie.invariant-loop-j
 invariant-loop n m₀ at j₀ m j = (j ≤ n) × (length m ≡ length m₀) × (m ≡ exchanged n at m₀ j j)
 
-abbrev decreases-loop : tie.decreases-loop
+abbrev decreases-loop : tie.decreases-loop-j
 decreases-loop n m₀ at j₀ m j = n - j
 
-loop-holds : tie.Need-loop-init invariant-loop decreases-loop
+loop-holds : tie.Need-loop-j-init invariant-loop decreases-loop
 loop-holds c = (omega arith, omega arith, exchanged-none c.args.n c.args.at c.args.m.now)
 
-add-above : tie.Need-overflow-add-above invariant-loop decreases-loop
+add-above : tie.Need-overflow_add-above invariant-loop decreases-loop
 add-above c = omega arith
 
-slice-read-above : tie.Need-slice-read-above invariant-loop decreases-loop
+slice-read-above : tie.Need-bounds-m-at invariant-loop decreases-loop
 slice-read-above c = omega arith
 
-add-m : tie.Need-overflow-add-m invariant-loop decreases-loop
+add-m : tie.Need-overflow_add-m invariant-loop decreases-loop
 add-m c = omega arith
 
-add-m-2 : tie.Need-overflow-add-m-2 invariant-loop decreases-loop
+add-m-2 : tie.Need-overflow_add-m-in-loop-j invariant-loop decreases-loop
 add-m-2 c = omega arith
 
-slice-read-m : tie.Need-slice-read-m invariant-loop decreases-loop
+slice-read-m : tie.Need-bounds-m-at-in-loop-j invariant-loop decreases-loop
 slice-read-m c = omega arith
 
-add-m-3 : tie.Need-overflow-add-m-3 invariant-loop decreases-loop
+add-m-3 : tie.Need-overflow_add-m-in-loop-j-2 invariant-loop decreases-loop
 add-m-3 c = omega arith
 
-slice-write-m : tie.Need-slice-write-m invariant-loop decreases-loop
+slice-write-m : tie.Need-bounds-m-at-in-loop-j-2 invariant-loop decreases-loop
 slice-write-m c = omega arith
 
-add-m-4 : tie.Need-overflow-add-m-4 invariant-loop decreases-loop
+add-m-4 : tie.Need-overflow_add-m-in-loop-j-3 invariant-loop decreases-loop
 add-m-4 c = omega arith
 
-add-m-5 : tie.Need-overflow-add-m-5 invariant-loop decreases-loop
+add-m-5 : tie.Need-overflow_add-m-in-loop-j-4 invariant-loop decreases-loop
 add-m-5 c = omega arith
 
-slice-write-m-2 : tie.Need-slice-write-m-2 invariant-loop decreases-loop
+slice-write-m-2 : tie.Need-bounds-m-at-in-loop-j-3 invariant-loop decreases-loop
 slice-write-m-2 c = simp length-set (omega arith)
 
-add-j : tie.Need-overflow-add-j invariant-loop decreases-loop
+add-j : tie.Need-overflow_add-j invariant-loop decreases-loop
 add-j c = omega arith
 
-loop-less : tie.Need-loop-smaller invariant-loop decreases-loop
+loop-less : tie.Need-loop-j-smaller invariant-loop decreases-loop
 loop-less c = omega arith
 
-loop-again : tie.Need-loop-preserved invariant-loop decreases-loop
+loop-again : tie.Need-loop-j-preserved invariant-loop decreases-loop
 loop-again c =
     let l = c.before.before.before in
     let a = l.before.args in
-    let j = l.loop.j in (
+    let j = l.loop-j.j in (
       omega arith,
-      simp length-set l.loop.invariant.1,
+      simp length-set l.loop-j.invariant.1,
       rw add-one (ap (λ x. set (set x (a.at + j) (get_or x (a.at + a.n + j) 0)) (a.at + a.n + j) (get_or x (a.at + j) 0))
-          l.loop.invariant.2
+          l.loop-j.invariant.2
           ∙ exchanged-more a.n a.at a.m.now l.before.requires j (omega arith)),
     )
 
-same_length : tie.Need-same-length invariant-loop decreases-loop
-same_length c = c.before.loop.invariant.1
+same_length : tie.Need-shape_of-m invariant-loop decreases-loop
+same_length c = c.before.loop-j.invariant.1
 
 returns : tie.Need-returns invariant-loop decreases-loop
 returns c =
     let l = c.before in
     let a = l.before.args in
-    let e : l.loop.j ≡ a.n = omega arith in
-    l.loop.invariant.2 ∙ ap (λ x. exchanged a.n a.at a.m.now x x) e ∙ exchanged-all a.n a.at a.m.now l.before.requires
+    let e : l.loop-j.j ≡ a.n = omega arith in
+    l.loop-j.invariant.2 ∙ ap (λ x. exchanged a.n a.at a.m.now x x) e ∙ exchanged-all a.n a.at a.m.now l.before.requires
 
 pub swap_spec : {M : Type 1} → statement M
 swap_spec =
