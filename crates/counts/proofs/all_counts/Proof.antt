@@ -9,5 +9,5 @@ returns : tie.Need-returns
 unfolding counts entry tabulate gaussian
 returns c = (equal_lists _ counts).shows tt
 
-pub all-counts-spec : {M : Type 1} → statement M
-all-counts-spec = tie.close (tie.spec returns)
+pub all_counts_spec : {M : Type 1} → statement M
+all_counts_spec = tie.close (tie.spec returns)

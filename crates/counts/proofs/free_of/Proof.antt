@@ -25,7 +25,7 @@ product c =
     ap₂ ◌*◌ c.power.ensures
     (s.requires.4 ∙ entry-within _ _ _ (le_trans (gaussian-longer-le a.q a.n a.k (omega (arith, size.0))) s.requires.3))
 
-mul-result : tie.Need-overflow-mul-result
+mul-result : tie.Need-overflow_mul-result
 mul-result c =
     let s = c.before in
     omega (arith, product c, gaussian-free-le s.args.q s.args.n s.args.k, s.requires.3)
@@ -33,5 +33,5 @@ mul-result c =
 returns : tie.Need-returns
 returns c = product c
 
-pub free-of-spec : {M : Type 1} → statement M
-free-of-spec = tie.close (tie.spec power-requires mul-result returns)
+pub free_of_spec : {M : Type 1} → statement M
+free_of_spec = tie.close (tie.spec power-requires mul-result returns)

@@ -8,22 +8,22 @@ use borrow.Author.Rules.{rules}
 use Rattle.counts.proofs.half_place.Statement.{statement}
 use Rattle.counts.proofs.half_place.Tie as tie
 
-add-side : tie.Need-overflow-add-side
+add-side : tie.Need-overflow_add-side
 add-side c = search rules
 
-cast-side : tie.Need-overflow-cast-side
+cast-side : tie.Need-overflow_cast-side
 cast-side c = search rules
 
-mul-result : tie.Need-overflow-mul-result
+mul-result : tie.Need-overflow_mul-result
 mul-result c = omega (arith, square-small c.args.n c.requires.0)
 
-cast-result : tie.Need-overflow-cast-result
+cast-result : tie.Need-overflow_cast-result
 cast-result c = omega (arith, square-small c.args.n c.requires.0)
 
 nearer-requires : tie.Need-nearer-requires
 nearer-requires c κs = search rules
 
-add-result : tie.Need-overflow-add-result
+add-result : tie.Need-overflow_add-result
 add-result c =
     let s = c.before in
     omega (arith, square-small s.args.n s.requires.0, nearer-twice s.args.n s.args.k s.requires.1, c.nearer.ensures)
@@ -31,5 +31,5 @@ add-result c =
 returns : tie.Need-returns
 returns c = let n = c.before.args.n in ap (λ x. (n + 1) * (n + 1) / 4 + x) c.nearer.ensures
 
-pub half-place-spec : {M : Type 1} → statement M
-half-place-spec = tie.close (tie.spec add-side cast-side mul-result cast-result nearer-requires add-result returns)
+pub half_place_spec : {M : Type 1} → statement M
+half_place_spec = tie.close (tie.spec add-side cast-side mul-result cast-result nearer-requires add-result returns)

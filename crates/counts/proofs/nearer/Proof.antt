@@ -5,14 +5,14 @@ use borrow.Author.Rules.{rules}
 use Rattle.counts.proofs.nearer.Statement.{statement}
 use Rattle.counts.proofs.nearer.Tie as tie
 
-sub-rest : tie.Need-overflow-sub-rest
+sub-rest : tie.Need-overflow_sub-rest
 sub-rest c = search rules
 
-returns : tie.Need-returns
-returns c = sym (rw (le-leb _ _ c.if1.true))
+returns : tie.Need-returns-then-m-rest
+returns c = sym (rw (le-leb _ _ c.if-m-rest.true))
 
-returns-2 : tie.Need-returns-2
-returns-2 c = sym (rw (lt-leb _ _ c.if1.false))
+returns-2 : tie.Need-returns
+returns-2 c = sym (rw (lt-leb _ _ c.if-m-rest.false))
 
-pub nearer-spec : {M : Type 1} → statement M
-nearer-spec = tie.close (tie.spec sub-rest returns returns-2)
+pub nearer_spec : {M : Type 1} → statement M
+nearer_spec = tie.close (tie.spec sub-rest returns returns-2)

@@ -31,23 +31,23 @@ shifted : (c : tie.After-bits) →
 shifted c =
     let s = c.before.before in
     let a = s.args in
-    let b = even-bits a.q s.requires.0 c.before.if1.true in
+    let b = even-bits a.q s.requires.0 c.before.if-q-eq0.true in
     let same : a.q ≡ 2 ^ c.bits.result = sym (ap (λ x. 2 ^ x) c.bits.ensures ∙ b.1) in
     power-shift a.q c.bits.result a.m same s.requires.2
 
-cast-result : tie.Need-overflow-cast-result
+cast-result : tie.Need-overflow_cast-result
 cast-result c = search rules
 
-mul-result : tie.Need-overflow-mul-result
+mul-result : tie.Need-overflow_mul-result
 mul-result c = omega (arith, (shifted c).0)
 
-cast-result-2 : tie.Need-overflow-cast-result-2
+cast-result-2 : tie.Need-overflow_cast-result-then-q-eq0
 cast-result-2 c = omega (arith, (shifted c).0)
 
-shl-result : tie.Need-overflow-shl-result
+shl-result : tie.Need-overflow_shl-result
 shl-result c = omega (arith, (shifted c).0)
 
-returns : tie.Need-returns
+returns : tie.Need-returns-then-q-eq0
 returns c =
     let e = c.bits.result * c.before.before.args.m in
     let inside : e < 64 = (shifted c).0 in
@@ -56,41 +56,41 @@ returns c =
 power-requires : tie.Need-power-requires
 power-requires c κs = search rules
 
-add-power : tie.Need-overflow-add-power
+add-power : tie.Need-overflow_add-m
 add-power c = search rules
 
-power-requires-2 : tie.Need-power-requires-2
+power-requires-2 : tie.Need-power-requires-in-5
 power-requires-2 c κs = search rules
 
-add-power-2 : tie.Need-overflow-add-power-2
+add-power-2 : tie.Need-overflow_add-m-in_default
 add-power-2 c = search rules
 
-power-requires-3 : tie.Need-power-requires-3
+power-requires-3 : tie.Need-power-requires-in_default
 power-requires-3 c κs = search rules
 
-returns-2 : tie.Need-returns-2
+returns-2 : tie.Need-returns-in-3
 unfolding sum
 returns-2 c =
     let small = c.before.before.before.requires.2 in
-    found 0 3 _ _ _ refl c.before.match.keys1 (omega arith) (lit< tt) (lit< tt) small
+    found 0 3 _ _ _ refl c.before.in-3.is (omega arith) (lit< tt) (lit< tt) small
     (c.power.ensures ∙ ap (λ i. get_or powers i 0) (sym (zero-add _)))
 
-returns-3 : tie.Need-returns-3
+returns-3 : tie.Need-returns-in-5
 unfolding sum
 returns-3 c =
     let small = c.before.before.before.requires.2 in
-    found 1 5 _ _ _ refl c.before.match.keys2 (omega arith) (lit< tt) (lit< tt) small c.power2.ensures
+    found 1 5 _ _ _ refl c.before.in-5.is (omega arith) (lit< tt) (lit< tt) small c.power-in-5.ensures
 
-returns-4 : tie.Need-returns-4
+returns-4 : tie.Need-returns-in_default
 unfolding sum
 returns-4 c =
     let e = c.before.before in
-    let h = c.before.match.rest in
-    let seven = last-odd _ (not-even _ e.before.requires.0 e.if1.false) h.0.1 h.1 in
-    found 2 7 _ _ _ refl seven (omega arith) (lit< tt) (lit< tt) e.before.requires.2 c.power3.ensures
+    let h = c.before.in_default.in_default-own.rest in
+    let seven = last-odd _ (not-even _ e.before.requires.0 e.if-q-eq0.false) h.0.1 h.1 in
+    found 2 7 _ _ _ refl seven (omega arith) (lit< tt) (lit< tt) e.before.requires.2 c.power-in_default.ensures
 
-pub power-spec : {M : Type 1} → statement M
-power-spec =
+pub power_spec : {M : Type 1} → statement M
+power_spec =
     tie.close
     (tie.spec
     bits-requires

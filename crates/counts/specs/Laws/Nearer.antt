@@ -3,8 +3,8 @@
 --   nearer-twice     == it is at most half of the limit
 --   nearer-either    == what holds of m and of limit - m holds of it
 -- Assumes nothing.
-use Rattle.std.specs.Prelude.{◌≡◌, ◌⊎◌, ℕ, ◌+◌, ◌-◌, ◌≤◌, ◌<◌, leb}
-use Rattle.std.proofs.Common.{subst, sym, ap, inl, inr, arith, le-leb}
+use Rattle.std.specs.Prelude.{◌⊎◌, ℕ, ◌+◌, ◌-◌, ◌≤◌, ◌<◌, leb}
+use Rattle.std.proofs.Common.{subst, sym, inl, inr, arith, le-leb}
 use Rattle.std.proofs.lemmas.Bool.{lt-leb}
 use Rattle.basics.specs.Choice.{pick}
 use Rattle.basics.specs.Laws.Order.{le-or-lt}
