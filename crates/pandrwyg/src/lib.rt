@@ -1,5 +1,5 @@
 // The raw functions for C, over numbers and slices: the pack's firmware calls Draw, the fleet server draws batches, the cabinet's daemon calls
-// Receive. include/pandrwyg.h puts an inline function in front of each, which keeps null pointers out.
+// Receive. `pandrwyg_c` exports them; include/pandrwyg.h puts an inline function in front of each, which keeps null pointers out.
 #![tactic(auto)]
 
 ghost use Rattle.std.specs.Prelude.{◌≡◌, ◌<◌, length};
@@ -15,15 +15,7 @@ use reduce::Space;
 
 // Draw for C: writes the reduced matrix with the given index of the numbering t. Refuses 1, 2, 3, 10, 4 (the buffer is not exactly k×n
 // bytes), 5, and then leaves the buffer.
-#[unsafe(no_mangle)]
-pub extern "C" fn pandrwyg_draw_raw(
-    q: u64,
-    n: u64,
-    k: u64,
-    t: u64,
-    index: u64,
-    matrix: &mut [u8],
-) -> u32
+pub fn pandrwyg_draw_raw(q: u64, n: u64, k: u64, t: u64, index: u64, matrix: &mut [u8]) -> u32
     ensures value { result ≡ draw_refusal q n k t index (length matrix.old) }
     ensures matrix_after { matrix.new ≡ draw_buffer q n k t index matrix.old }
 {
@@ -33,8 +25,7 @@ pub extern "C" fn pandrwyg_draw_raw(
 // Draws a list of indexes for C: the reduced matrix of each index of the numbering t goes to its k×n bytes of `matrices`, and 0 to its byte
 // of `answers`. An index of N or more leaves its k×n bytes, and its answer is 5. Refuses the whole 1, 2, 3, 10, 4 (either buffer is not
 // exactly as long as the list needs), and then leaves both buffers.
-#[unsafe(no_mangle)]
-pub extern "C" fn pandrwyg_draw_batch_raw(
+pub fn pandrwyg_draw_batch_raw(
     q: u64,
     n: u64,
     k: u64,
@@ -126,8 +117,7 @@ fn exported_refusal(q: u64, n: u64, k: u64, t: u64, row_count: u64, rows: &[u8],
 // Receive for C: the answer is a lent buffer of eleven bytes, the index, the dimension and the identifying vector, each least byte first.
 // Refuses as Receive does, and 4 if the answer isn't eleven bytes, after the rows' length. 8 and 9 leave index bytes of 0, the dimension
 // and the vector; other refusals leave the answer.
-#[unsafe(no_mangle)]
-pub extern "C" fn pandrwyg_receive_raw(
+pub fn pandrwyg_receive_raw(
     q: u64,
     n: u64,
     k: u64,
