@@ -12,7 +12,7 @@ FILENAME == "crates.txt" {
     crate[++crates] = name
     listed[name] = 1
     of[name] = title
-    for (i = 2; i <= NF; i++) {
+    for (i = $2 == "staticlib:" ? 3 : 2; i <= NF; i++) {
         uses[name, $i] = 1
         deps[name] = deps[name] " " $i
     }
