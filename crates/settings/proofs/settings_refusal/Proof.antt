@@ -3,7 +3,7 @@ use mathlib.Core.Path.{◌≡◌, ◌∙◌, sym}
 use mathlib.Core.Bool.{true}
 use native.Mathlib.Omega.{arith}
 use borrow.Author.Rules.{rules}
-use borrow.Author.Tests.{not-true, not-false, lt-leb}
+use borrow.Author.Tests.{lt-leb}
 use Rattle.basics.specs.Laws.Choice.{holds}
 use Rattle.field.specs.Field.{is_field_size}
 use Rattle.refusal.specs.Laws.First.{test-refused, test-passed}
@@ -12,33 +12,33 @@ use Rattle.settings.specs.Laws.Accepted.{row-length-fits, count-accepted, count-
 use Rattle.settings.proofs.settings_refusal.Statement.{statement}
 use Rattle.settings.proofs.settings_refusal.Tie as tie
 
-sized : (c : tie.Else1) → is_field_size c.before.before.args.q ≡ true
-sized c = sym c.before.is-size.ensures ∙ not-false _ c.if1.false
+sized : (c : tie.Else-not-is_size) → is_field_size c.before.before.args.q ≡ true
+sized c = sym c.before.is_size.ensures ∙ c.if-not-is_size.false
 
-long-enough : (c : tie.Else2) → row_length_ok c.before.before.before.before.args.n ≡ true
-long-enough c = sym c.before.row-length-ok.ensures ∙ not-false _ c.if2.false
+long-enough : (c : tie.Else-not-row_length_ok) → row_length_ok c.before.before.before.before.args.n ≡ true
+long-enough c = sym c.before.row_length_ok.ensures ∙ c.if-not-row_length_ok.false
 
-is-size-requires : tie.Need-is-size-requires
+is-size-requires : tie.Need-is_size-requires
 is-size-requires c κs = search rules
 
-returns : tie.Need-returns
+returns : tie.Need-returns-then-not-is_size
 unfolding settings_refusal
-returns c = sym (test-refused _ _ _ tt (sym c.before.is-size.ensures ∙ not-true _ c.if1.true))
+returns c = sym (test-refused _ _ _ tt (sym c.before.is_size.ensures ∙ c.if-not-is_size.true))
 
-row-length-ok-requires : tie.Need-row-length-ok-requires
+row-length-ok-requires : tie.Need-row_length_ok-requires
 row-length-ok-requires c κs = search rules
 
-returns-2 : tie.Need-returns-2
+returns-2 : tie.Need-returns-then-not-row_length_ok
 unfolding settings_refusal range_ok
 returns-2 c =
-    let row = sym c.before.row-length-ok.ensures ∙ not-true _ c.if2.true in
+    let row = sym c.before.row_length_ok.ensures ∙ c.if-not-row_length_ok.true in
     sym (test-passed _ _ _ (sized c.before.before) ∙ test-refused _ _ _ tt (rw row))
 
-returns-3 : tie.Need-returns-3
+returns-3 : tie.Need-returns-then-n-k
 unfolding settings_refusal range_ok
 returns-3 c =
     let a = c.before.before.before.before.before.args in
-    let wide = lt-leb a.k a.n (omega (arith, (row-length-fits _ (long-enough c.before)).1, c.if3.true)) in
+    let wide = lt-leb a.k a.n (omega (arith, (row-length-fits _ (long-enough c.before)).1, c.if-n-k.true)) in
     sym (test-passed _ _ _ (sized c.before.before.before) ∙ test-refused _ _ _ tt (rw (long-enough c.before, wide)))
 
 coefficient-requires : tie.Need-coefficient-requires
@@ -46,22 +46,22 @@ coefficient-requires c κs =
     let fits = row-length-fits _ (long-enough c.before) in
     (holds _ (sized c.before.before.before), fits.1, omega arith)
 
-returns-4 : tie.Need-returns-4
+returns-4 : tie.Need-returns-then-coefficient-eq0
 returns-4 c =
     let b = c.before.before in
     sym
-    (count-refused _ _ _ (sized b.before.before.before) (long-enough b.before) (omega (arith, b.if3.false))
-    (sym c.before.coefficient.ensures ∙ c.if4.true))
+    (count-refused _ _ _ (sized b.before.before.before) (long-enough b.before) (omega (arith, b.if-n-k.false))
+    (sym c.before.coefficient.ensures ∙ c.if-coefficient-eq0.true))
 
-returns-5 : tie.Need-returns-5
+returns-5 : tie.Need-returns
 returns-5 c =
     let b = c.before.before in
     sym
-    (count-accepted _ _ _ (sized b.before.before.before) (long-enough b.before) (omega (arith, b.if3.false))
-    (λ e. c.if4.false (c.before.coefficient.ensures ∙ e)))
+    (count-accepted _ _ _ (sized b.before.before.before) (long-enough b.before) (omega (arith, b.if-n-k.false))
+    (λ e. c.if-coefficient-eq0.false (c.before.coefficient.ensures ∙ e)))
 
-pub settings-refusal-spec : {M : Type 1} → statement M
-settings-refusal-spec =
+pub settings_refusal_spec : {M : Type 1} → statement M
+settings_refusal_spec =
     tie.close
     (tie.spec
     is-size-requires

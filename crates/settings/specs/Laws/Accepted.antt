@@ -5,7 +5,7 @@
 --   entry-of-accepted       == the table's entry for accepted settings is their count
 --   count-told              == the number and the count that an answer of Count tells
 -- Assumes nothing.
-use Rattle.std.specs.Prelude.{◌≡◌, true, ℕ, ◌≤◌, ◌<◌, T, leb}
+use Rattle.std.specs.Prelude.{◌≡◌, true, ℕ, ◌≤◌, T, leb}
 use Rattle.std.proofs.Math.Path.{refl, ap, sym}
 use Rattle.std.proofs.Common.{◌∙◌, arith}
 use mathlib.Core.List.{◌∷◌, []}
