@@ -72,33 +72,31 @@ static void end(FILE *file)
 struct proof {
     FILE *file;
     const char *list;
-    int arms;
 };
 
 static struct proof begin_proof(const char *crate, const char *function, const char *list, const char *uses, const char *unfolding)
 {
     char path[256];
     snprintf(path, sizeof path, "crates/%s/proofs/lookup/%s/Proof.antt", crate, function);
-    struct proof p = {begin(path), list, 0};
+    struct proof p = {begin(path), list};
     fprintf(p.file, "-- `%s::lookup::%s` meets its contract: each arm by computing the list's entry at its key.\n", crate, function);
     fprintf(p.file, "-- Made by tools/tables.\n");
-    fprintf(p.file, "use Rattle·basics.specs.laws.LookUp.{arm, past}\n%s", uses);
-    fprintf(p.file, "use Rattle·%s·proofs.proofs.lookup.%s.Statement.{statement}\n", crate, function);
-    fprintf(p.file, "use Rattle·%s·proofs.proofs.lookup.%s.Tie as tie\n\n", crate, function);
-    fprintf(p.file, "pub %s-spec : {M : Type 1} → statement M\nunfolding %s\n", function, unfolding);
-    fprintf(p.file, "%s-spec =\n    tie.close\n    (tie.spec\n", function);
+    fprintf(p.file, "use Rattle.basics.specs.Laws.LookUp.{arm, past}\n%s", uses);
+    fprintf(p.file, "use Rattle.%s.proofs.lookup.%s.Statement.{statement}\n", crate, function);
+    fprintf(p.file, "use Rattle.%s.proofs.lookup.%s.Tie as tie\n\n", crate, function);
+    fprintf(p.file, "pub %s_spec : {M : Type 1} → statement M\nunfolding %s\n", function, unfolding);
+    fprintf(p.file, "%s_spec =\n    tie.close\n    (tie.spec\n", function);
     return p;
 }
 
 static void prove_arm(struct proof *p, int key)
 {
-    p->arms++;
-    fprintf(p->file, "    (λ c. arm %s %d (c .match .keys%d))\n", p->list, key, p->arms);
+    fprintf(p->file, "    (λ c. arm %s %d c.in-%d.is)\n", p->list, key, key);
 }
 
 static void end_proof(struct proof *p)
 {
-    fprintf(p->file, "    (λ c. past %s _ (c .match .rest)))\n", p->list);
+    fprintf(p->file, "    (λ c. past %s _ c.in_default.in_default-own.rest))\n", p->list);
     end(p->file);
 }
 
@@ -106,7 +104,7 @@ static void end_proof(struct proof *p)
 static void begin_function(FILE *file, const char *name, const char *list, const char *about)
 {
     fprintf(file, "\n// %s\npub fn %s(at: u64) -> u64\n", about, name);
-    fprintf(file, "    ensures { λ r. ⌜ r ≡ getD %s at 0 ⌝ }\n{\n    match at {\n", list);
+    fprintf(file, "    ensures { result ≡ get_or %s at 0 }\n{\n    match at {\n", list);
 }
 
 static void end_function(FILE *file)
@@ -163,18 +161,17 @@ static void write_counts_look_up(void)
     FILE *file = begin("crates/counts/src/lookup.rt");
     fputs("// What the counts and the powers are looked up by. The compiler makes a read-only table of each `match`, which needs no\n"
           "// stack; a constant array that is read at a place known only at run time it would copy to the stack. Made by tools/tables.\n"
-          "ghost use mathlib.Core.Path.{_≡_};\n"
-          "ghost use lib.ListN.{getD};\n"
-          "ghost use Rattle·counts·specs.specs.laws.Halves.{halves};\n"
-          "ghost use Rattle·counts·specs.specs.laws.Powers.{powers};\n"
+          "ghost use Rattle.std.specs.Prelude.{◌≡◌, get_or};\n"
+          "ghost use Rattle.counts.specs.Laws.Halves.{halves};\n"
+          "ghost use Rattle.counts.specs.Laws.Powers.{powers};\n\n"
           "use crate::table::COUNTS;\n"
           "\n// N_q_n_k is the table's entry for q, n and k.", file);
     each_half(name_half, file, NULL);
     struct proof proof = begin_proof("counts", "count", "halves",
-        "use Rattle·basics.specs.laws.Ragged.{ragged}\n"
-        "use Rattle·basics.specs.Table.{tabulate}\n"
-        "use Rattle·counts·specs.specs.Gaussian.{gaussian, entry}\n"
-        "use Rattle·counts·specs.specs.laws.Halves.{halves}\n",
+        "use Rattle.basics.specs.Laws.Ragged.{ragged}\n"
+        "use Rattle.basics.specs.Table.{tabulate}\n"
+        "use Rattle.counts.specs.Gaussian.{gaussian, entry}\n"
+        "use Rattle.counts.specs.Laws.Halves.{halves}\n",
         "halves ragged tabulate entry gaussian");
     begin_function(file, "count", "halves",
         "The table's counts up to k = n / 2, those of a size after those of the size before; elsewhere 0.");
@@ -182,9 +179,9 @@ static void write_counts_look_up(void)
     end_function(file);
     end_proof(&proof);
     proof = begin_proof("counts", "power", "powers",
-        "use Rattle·basics.specs.laws.Ragged.{ragged}\n"
-        "use Rattle·basics.specs.Table.{tabulate}\n"
-        "use Rattle·counts·specs.specs.laws.Powers.{powers}\n",
+        "use Rattle.basics.specs.Laws.Ragged.{ragged}\n"
+        "use Rattle.basics.specs.Table.{tabulate}\n"
+        "use Rattle.counts.specs.Laws.Powers.{powers}\n",
         "powers ragged tabulate");
     begin_function(file, "power", "powers",
         "The powers within 64 bits of the odd sizes, those of a size after those of the size before; past them 0.");
@@ -208,14 +205,13 @@ static void write_diagrams_look_up(void)
     FILE *file = begin("crates/partitions/src/lookup.rt");
     fputs("// The tables of the partition counts, as functions: the compiler makes a read-only table of each `match`, which needs no\n"
           "// stack. Made by tools/tables.\n"
-          "ghost use mathlib.Core.Path.{_≡_};\n"
-          "ghost use lib.ListN.{getD};\n"
-          "ghost use Rattle·partitions·specs.specs.laws.PackedCounts.{words, begins};\n", file);
+          "ghost use Rattle.std.specs.Prelude.{◌≡◌, get_or};\n"
+          "ghost use Rattle.partitions.specs.Laws.PackedCounts.{words, begins};\n", file);
     struct proof proof = begin_proof("partitions", "word", "words",
-        "use Rattle·basics.specs.laws.Ragged.{ragged}\n"
-        "use Rattle·partitions·specs.specs.laws.BoxTable.{level, nextRows, addRows, shifted}\n"
-        "use Rattle·partitions·specs.specs.laws.PackedCounts.{keptCounts, packFour, words}\n",
-        "words packFour keptCounts ragged level nextRows addRows shifted");
+        "use Rattle.basics.specs.Laws.Ragged.{ragged}\n"
+        "use Rattle.partitions.specs.Laws.BoxTable.{level, next_rows, add_rows, shifted}\n"
+        "use Rattle.partitions.specs.Laws.PackedCounts.{kept_counts, pack_four, words}\n",
+        "words pack_four kept_counts ragged level next_rows add_rows shifted");
     begin_function(file, "word", "words",
         "Four partition counts of sixteen bits each, the first lowest.");
     uint64_t word = 0;
@@ -236,10 +232,10 @@ static void write_diagrams_look_up(void)
     end_function(file);
     end_proof(&proof);
     proof = begin_proof("partitions", "begin", "begins",
-        "use Rattle·basics.specs.laws.Ragged.{ragged}\n"
-        "use Rattle·basics.specs.Sum.{sum}\n"
-        "use Rattle·basics.specs.Table.{tabulate}\n"
-        "use Rattle·partitions·specs.specs.laws.PackedCounts.{begins}\n",
+        "use Rattle.basics.specs.Laws.Ragged.{ragged}\n"
+        "use Rattle.basics.specs.Sum.{sum}\n"
+        "use Rattle.basics.specs.Table.{tabulate}\n"
+        "use Rattle.partitions.specs.Laws.PackedCounts.{begins}\n",
         "begins ragged tabulate sum");
     begin_function(file, "begin", "begins",
         "Where the counts of a box begin; the boxes in the order of their row length and shorter side.");
