@@ -373,7 +373,7 @@ FILENAME ~ /\.rt$/ {
         key = add_item(FILENAME, name)
         kind[key] = "function"
         text[key] = note
-        if (note ~ /#\[no_mangle\]/ && FILENAME ~ /crates\/pandrwyg\//) call[++calls] = "pandrwyg::" name
+        if (note ~ /no_mangle/ && FILENAME ~ /crates\/pandrwyg_c\//) call[++calls] = "pandrwyg_c::" name
         head[key] = within
         open = "function"
         ensuring = 0
