@@ -14,7 +14,7 @@
 -- Assumes nothing.
 use Rattle.std.specs.Prelude.{◌≡◌, refl, false, List, [], ◌∷◌, ◌++◌, ◌↔◌}
 use Rattle.std.proofs.Common.{ap, sym, ◌∙◌, subst, subst₂}
-use Rattle.std.proofs.Math.Logic.{Iff·rfl}
+use Rattle.std.proofs.Math.Logic.Iff
 use Rattle.linear.specs.Span.{All, Row, SameSpan}
 use Rattle.linear.specs.Laws.Every.{all_append}
 use Rattle.numbering.specs.Laws.Chosen.{first-known}
@@ -104,7 +104,7 @@ held-exactly a b reached other = (there, λ x. back (setups-equal (setup_of a) (
     there : a ≡ b → SameSetup a b × SameSpan a.q a.n (held_rows a) (held_rows b)
     there e = (
       (ap (λ r. r.q) e, ap (λ r. r.n) e, ap (λ r. r.k) e, ap (λ r. r.pack) e),
-      subst (λ r. SameSpan a.q a.n (held_rows a) (held_rows r)) e (λ v. Iff·rfl),
+      subst (λ r. SameSpan a.q a.n (held_rows a) (held_rows r)) e (λ v. Iff.rfl),
     )
 
     back : setup_of a ≡ setup_of b → SameSpan a.q a.n (held_rows a) (held_rows b) → a ≡ b

@@ -6,7 +6,8 @@ use Rattle.std.specs.Prelude.{◌≡◌, Bool, true, false, ◌⊎◌, ℕ, ◌�
 use Rattle.std.proofs.Math.Path.{refl}
 use Rattle.std.proofs.Common.{ap, sym, ◌∙◌, subst, inr, arith}
 use mathlib.Core.List.{List, [], ◌∷◌, ◌++◌}
-use Rattle.std.proofs.Math.Logic.{inl, Iff·rfl}
+use Rattle.std.proofs.Math.Logic.Iff
+use Rattle.std.proofs.Math.Logic.{inl}
 use Rattle.basics.specs.Choice.{pick}
 use Rattle.field.specs.FieldLaws.{Laws}
 use Rattle.linear.specs.Span.{All, Row, SameSpan}
@@ -73,7 +74,7 @@ module _ (s : Setup) (settings : setup_refusal s ≡ 0) where
           → distance q n us vs ≤ 1
       cases (inl e) =
           let same = whole [] e ∙ sym (accepted-append s settings es fs) in
-          let apart = (distance-zero q law n us vs hu hv).1 (subst (SameSpan q n us) same (λ v. Iff·rfl)) in
+          let apart = (distance-zero q law n us vs hu hv).1 (subst (SameSpan q n us) same (λ v. Iff.rfl)) in
           omega (arith, apart)
       cases (inr (row, e)) =
           (row-dropped q law n us vs hu hv (accepted (begun s) es) (accepted (begun s) fs) row (whole (row ∷ []) e)

@@ -9,7 +9,7 @@
 use Rattle.std.specs.Prelude.{◌≡◌, refl, Bool, true, false, List, [], ◌∷◌, ◌⊎◌, ℕ, ◌≤◌, ◌<◌}
 use Rattle.std.proofs.Common.{ap, sym, ◌∙◌, subst, inl, inr, arith}
 use Rattle.std.proofs.Math.Path.{ap₂}
-use Rattle.std.proofs.Math.Logic.{Iff·rfl}
+use Rattle.std.proofs.Math.Logic.Iff
 use Rattle.std.proofs.Math.ListN.{length}
 use Rattle.basics.specs.Choice.{pick}
 use Rattle.field.specs.FieldLaws.{Laws}
@@ -139,7 +139,7 @@ module _ (q n k t : ℕ) (settings : settings_refusal q n k ≡ 0) (known : is_n
       (sym (join-rows n k ((drawing q n k t).leaves i b) reduced.size))
       ∙ ((demand-3 (setup q n k 0) t settings known).reception i h b sized drawn_rows few
       (all_map (λ v s. (mixed-in-span q law n drawn_rows valid v).1 s) (span-each q law n drawn_rows valid))).typed _
-      ((drawing q n k t).leaves i b, reduced, λ v. Iff·rfl, refl)
+      ((drawing q n k t).leaves i b, reduced, λ v. Iff.rfl, refl)
     where
       few : length drawn_rows ≤ 64
       few =
