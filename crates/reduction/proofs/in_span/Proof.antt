@@ -14,17 +14,17 @@ use borrow.Author.Rules.{rules}
 use Rattle.reduction.proofs.in_span.Statement.{statement}
 use Rattle.reduction.proofs.in_span.Tie as tie
 
-slice-aggregate-copy : tie.Need-slice-aggregate-copy
+slice-aggregate-copy : tie.Need-slice_bounds-copy-end
 slice-aggregate-copy c = search rules
 
 copy-requires : tie.Need-copy-requires
 copy-requires c κs = search rules
 
-slice-aggregate-take-off-rows : tie.Need-slice-aggregate-take-off-rows
+slice-aggregate-take-off-rows : tie.Need-slice_bounds-take_off_rows-end
 slice-aggregate-take-off-rows c = search rules
 
 -- the copy stands behind the place of a row
-module _ (c : tie.After-work3) where
+module _ (c : tie.After-work-3-1) where
   abbrev start : tie.Start
   start = c.before.before.before.before.before.before.before
 
@@ -33,27 +33,27 @@ module _ (c : tie.After-work3) where
 
   room : start.args.n + start.args.n ≤ length zeros
   unfolding zeros
-  room = omega (arith, start.pre.0.4)
+  room = omega (arith, start.requires.0.4)
 
-  behind : part start.args.n start.args.n c.before.before.copy.new.1.0 ≡ start.args.row.now
+  behind : part start.args.n start.args.n c.copy.new.target ≡ start.args.row.now
   unfolding zeros
   behind =
       let a = start.args in
-      copied-part a.n a.row.now zeros _ start.pre.0.3.0 c.before.before.copy.ensures room
+      copied-part a.n a.row.now zeros _ start.requires.0.3.0 c.copy.ensures room
 
-  wide : start.args.n + start.args.n ≤ length c.before.before.copy.new.1.0
+  wide : start.args.n + start.args.n ≤ length c.copy.new.target
   unfolding zeros
   wide =
       let a = start.args in
-      omega (arith, copied-length a.n a.row.now zeros _ start.pre.0.3.0 c.before.before.copy.ensures room, start.pre.0.4)
+      omega (arith, copied-length a.n a.row.now zeros _ start.requires.0.3.0 c.copy.ensures room, start.requires.0.4)
 
-take-off-rows-requires : tie.Need-take-off-rows-requires
+take-off-rows-requires : tie.Need-take_off_rows-requires
 take-off-rows-requires c κs =
     let p = (start c).requires in
     let a = (start c).args in
     ((p.0.0, p.0.1, p.0.2, subst (Row a.q a.n) (sym (behind c)) p.0.3, wide c), p.1)
 
-slice-aggregate-lead : tie.Need-slice-aggregate-lead
+slice-aggregate-lead : tie.Need-slice_bounds-lead-end
 slice-aggregate-lead c = search rules
 
 lead-requires : tie.Need-lead-requires
@@ -66,11 +66,11 @@ returns c =
     let a = (start t.before).args in
     ap (λ x. eqb x a.n)
     (c.lead.ensures ∙ lead-part a.n _ a.n
-    ∙ ap (lead_of a.n) (t.take-off-rows.ensures
+    ∙ ap (lead_of a.n) (t.take_off_rows.ensures
     ∙ ap (residue a.q a.n (rows_of a.n a.d a.m.now)) (behind t.before)))
 
-pub in-span-spec : {M : Type 1} → statement M
-in-span-spec =
+pub in_span_spec : {M : Type 1} → statement M
+in_span_spec =
     tie.close
     (tie.spec
     slice-aggregate-copy

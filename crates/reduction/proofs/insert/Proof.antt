@@ -14,12 +14,12 @@ use borrow.Author.Rules.{rules}
 use Rattle.reduction.proofs.insert.Statement.{statement}
 use Rattle.reduction.proofs.insert.Tie as tie
 
-returns : tie.Need-returns
+returns : tie.Need-returns-then-d-n
 returns c =
     let b = c.before.before.before.before in
     let a = b.args in
     let same =
-    full-same a.q (laws a.q b.requires.0.0) a.n b.requires.0.1 (rows-length a.n a.d a.m.now ∙ c.if1.true)
+    full-same a.q (laws a.q b.requires.0.0) a.n b.requires.0.1 (rows-length a.n a.d a.m.now ∙ c.if-d-n.true)
     a.row.now
     b.requires.0.3 in (
       sym (rows-length a.n a.d a.m.now) ∙ ap length same,
@@ -27,13 +27,13 @@ returns c =
     )
 
 -- there is room for one row more
-room : (c : tie.Else1) → let a = c.before.before.before.before.args in a.d < a.n
+room : (c : tie.Else-d-n) → let a = c.before.before.before.before.args in a.d < a.n
 room c =
     let b = c.before.before.before.before in
     let a = b.args in
-    omega (arith, held_fits a.q (laws a.q b.requires.0.0) a.n a.d a.m.now b.requires.0.1 b.requires.0.2, c.if1.false)
+    omega (arith, held_fits a.q (laws a.q b.requires.0.0) a.n a.d a.m.now b.requires.0.1 b.requires.0.2, c.if-d-n.false)
 
-insert-residue-requires : tie.Need-insert-residue-requires
+insert-residue-requires : tie.Need-insert_residue-requires
 insert-residue-requires c κs =
     let f = c.before.before in
     let b = f.before.before.before.before in
@@ -51,26 +51,26 @@ insert-residue-requires c κs =
       ),
     )
 
-same_length : tie.Need-same-length
+same_length : tie.Need-shape_of-m
 same_length c = search rules
 
-same-length-2 : tie.Need-same-length-2
+same-length-2 : tie.Need-shape_of-pivots
 same-length-2 c = search rules
 
-returns-2 : tie.Need-returns-2
+returns-2 : tie.Need-returns
 returns-2 c =
     let r = c.before.before.before.before in
     let b = r.before.before.before.before.before.before.before in
     let a = b.args in (
-      r.insert-residue.ensures.0,
+      r.insert_residue.ensures.0,
       (
-        r.insert-residue.ensures.1.0
+        r.insert_residue.ensures.1.0
             ∙ ap (λ x. padded x (join (insert_row a.q a.n (rows_of a.n a.d a.m.now) a.row.now)))
             (held-length a.q (laws a.q b.requires.0.0) a.n a.d a.m.now b.requires.0.1 b.requires.0.2),
-        r.insert-residue.ensures.1.1,
+        r.insert_residue.ensures.1.1,
       ),
     )
 
-pub insert-spec : {M : Type 1} → statement M
-insert-spec =
+pub insert_spec : {M : Type 1} → statement M
+insert_spec =
     tie.close (tie.spec returns insert-residue-requires same_length same-length-2 returns-2)

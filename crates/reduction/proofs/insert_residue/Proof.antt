@@ -22,172 +22,159 @@ use Rattle.reduction.proofs.insert_residue.Tie as tie
 residue-requires : tie.Need-residue-requires
 residue-requires c κs = search rules
 
-mul_at : tie.Need-overflow-mul-at
+mul_at : tie.Need-overflow_mul-at
 mul_at c = search rules
 
-lead-requires : tie.Need-lead-requires
+lead-requires : tie.Need-lead-p-requires
 lead-requires c κs = search rules
 
 -- p is the residue's lead
-lead_is : (c : tie.After-lead) →
-    let a = c.before.before.before.before.before.before.before.before.before.before.args in
-    c.lead.result ≡ lead_of a.n (residue a.q a.n (rows_of a.n a.d a.m.now) a.row.now)
+lead_is : (c : tie.After-lead-p) →
+    let a = c.args in
+    c.lead-p.result ≡ lead_of a.n (residue a.q a.n (rows_of a.n a.d a.m.now) a.row.now)
 lead_is c =
-    let r = c.before.before.before.before in
-    let b = r.before.before.before.before.before.before in
-    let a = b.args in
-    c.lead.ensures
-    ∙ left-lead a.q (laws a.q b.requires.0.0) a.n a.d a.m.now b.requires.0.1 b.requires.0.2 a.row.now b.requires.0.3
-    b.requires.1.1 _ r.residue.ensures
+    let a = c.args in
+    c.lead-p.ensures
+    ∙ left-lead a.q (laws a.q c.requires.0.0) a.n a.d a.m.now c.requires.0.1 c.requires.0.2 a.row.now c.requires.0.3
+    c.requires.1.1 _ c.residue.ensures
 
-nonzero : (c : tie.Else1) →
-    let a = c.before.before.before.before.before.before.before.before.before.before.before.args in
+nonzero : (c : tie.Else-p-n) →
+    let a = c.args in
     lead_of a.n (residue a.q a.n (rows_of a.n a.d a.m.now) a.row.now) ≡ a.n → ⊥
-nonzero c e = c.if1.false (lead_is c.before ∙ e)
+nonzero c e = c.if-p-n.false (lead_is c.before ∙ e)
 
 -- the residue has a lead
-below : (c : tie.Else1) →
-    let a = c.before.before.before.before.before.before.before.before.before.before.before.args in
-    c.before.lead.result < a.n
+below : (c : tie.Else-p-n) →
+    let a = c.args in
+    c.lead-p.result < a.n
 below c =
-    let b = c.before.before.before.before.before.before.before.before.before.before.before in
-    let a = b.args in
+    let a = c.args in
     omega (
       arith,
       lead_is c.before,
-      lead_of-le a.q (laws a.q b.requires.0.0) a.n
+      lead_of-le a.q (laws a.q c.requires.0.0) a.n
           (residue a.q a.n (rows_of a.n a.d a.m.now) a.row.now),
-      c.if1.false,
+      c.if-p-n.false,
     )
 
-same_length : tie.Need-same-length
+same_length : tie.Need-shape_of-m-then-p-n
 same_length c = search rules
 
-same-length-2 : tie.Need-same-length-2
+same-length-2 : tie.Need-shape_of-pivots-then-p-n
 same-length-2 c = search rules
 
-returns : tie.Need-returns
+returns : tie.Need-returns-then-p-n
 returns c =
-    let r = c.before.before.before.before.before in
-    let b = r.before.before.before.before.before.before in
-    let a = b.args in
+    let a = c.args in
     let same =
-    insert-same a.q (laws a.q b.requires.0.0) a.n a.d a.m.now b.requires.0.1 b.requires.0.2 a.row.now b.requires.0.3
-    b.requires.1.1 _ r.residue.ensures (sym (lead_is c.before) ∙ c.if1.true) in
-    (sym (rows-length a.n a.d a.m.now) ∙ ap length same.0, (same.1, b.requires.1.0.1 ∙ ap (leads a.n) same.0))
+    insert-same a.q (laws a.q c.requires.0.0) a.n a.d a.m.now c.requires.0.1 c.requires.0.2 a.row.now c.requires.0.3
+    c.requires.1.1 _ c.residue.ensures (sym (lead_is c.before) ∙ c.if-p-n.true) in
+    (sym (rows-length a.n a.d a.m.now) ∙ ap length same.0, (same.1, c.requires.1.0.1 ∙ ap (leads a.n) same.0))
 
-add-monic : tie.Need-overflow-add-monic
+add-monic : tie.Need-overflow_add-at
 add-monic c = search rules
 
-sub-monic : tie.Need-overflow-sub-monic
+sub-monic : tie.Need-slice_bounds-monic-count
 sub-monic c = search rules
 
-part-monic-start : tie.Need-slice-bounds-monic-start
+part-monic-start : tie.Need-slice_bounds-monic-start
 part-monic-start c = search rules
 
-part-monic-end : tie.Need-slice-bounds-monic-end
+part-monic-end : tie.Need-slice_bounds-monic-end
 part-monic-end c = search rules
 
 monic-requires : tie.Need-monic-requires
 monic-requires c κs =
     let f = c.before in
-    let r = c.before.before.before.before.before.before in
-    let b = r.before.before.before.before.before.before in
-    let a = b.args in
+    let a = c.args in
     let start : ℕ = a.d * a.n in
     let k : start + a.n - start ≡ a.n = omega arith in
-    let here : take (start + a.n - start) (drop start r.residue.new.1.1.1.1.0)
+    let here : take (start + a.n - start) (drop start c.residue.new.m)
     ≡ residue a.q a.n (rows_of a.n a.d a.m.now) a.row.now =
-    ap (λ x. take x (drop start r.residue.new.1.1.1.1.0)) k
-    ∙ left-part a.q (laws a.q b.requires.0.0) a.n a.d a.m.now b.requires.0.1 b.requires.0.2 a.row.now b.requires.0.3
-    b.requires.1.1 _ r.residue.ensures
+    ap (λ x. take x (drop start c.residue.new.m)) k
+    ∙ left-part a.q (laws a.q c.requires.0.0) a.n a.d a.m.now c.requires.0.1 c.requires.0.2 a.row.now c.requires.0.3
+    c.requires.1.1 _ c.residue.ensures
     in (
-      b.requires.0.0,
-      subst (Row a.q a.n) (sym here) (residue-is-row a.q (laws a.q b.requires.0.0) a.n a.d a.m.now b.requires.0.1
-          b.requires.0.2 a.row.now b.requires.0.3 b.requires.1.1),
+      c.requires.0.0,
+      subst (Row a.q a.n) (sym here) (residue-is-row a.q (laws a.q c.requires.0.0) a.n a.d a.m.now c.requires.0.1
+          c.requires.0.2 a.row.now c.requires.0.3 c.requires.1.1),
       lead_is f.before ∙ ap (lead_of a.n) (sym here),
       below f,
     )
 
 -- row d is the residue, scaled
 scaled : (c : tie.After-monic) →
-    let r = c.before.before.before.before.before.before.before in
-    let a = r.before.before.before.before.before.before.args in
+    let a = c.args in
     let start : ℕ = a.d * a.n in
-    let now : List ℕ = r.residue.new.1.1.1.1.0 in
-    take start now ++ (c.monic.new.1.1.1.0 ++ drop (start + a.n - start) (drop start now))
+    let now : List ℕ = c.residue.new.m in
+    take start now ++ (c.monic.new.v ++ drop (start + a.n - start) (drop start now))
     ≡ put a.n start (monic a.q a.n (residue a.q a.n (rows_of a.n a.d a.m.now) a.row.now)) a.m.now
 scaled c =
-    let r = c.before.before.before.before.before.before.before in
-    let b = r.before.before.before.before.before.before in
-    let a = b.args in
-    scaled-is a.q (laws a.q b.requires.0.0) a.n a.d a.m.now b.requires.0.1 b.requires.0.2 a.row.now b.requires.0.3
-    b.requires.1.1 _ r.residue.ensures (a.d * a.n + a.n - a.d * a.n) (omega arith) _ c.monic.ensures
+    let a = c.args in
+    scaled-is a.q (laws a.q c.requires.0.0) a.n a.d a.m.now c.requires.0.1 c.requires.0.2 a.row.now c.requires.0.3
+    c.requires.1.1 _ c.residue.ensures (a.d * a.n + a.n - a.d * a.n) (omega arith) _ c.monic.ensures
 
-put-among-requires : tie.Need-put-among-requires
+put-among-requires : tie.Need-put_among-requires
 put-among-requires c κs =
     let s = c.before.before.before.before in
-    let f = s.before.before in
-    let b = s.before.before.before.before.before.before.before.before.before.before.before.before.before in
-    let a = b.args in
+    let f = c.before.before.before.before.before.before in
+    let a = c.args in
     let rows =
-    scaled-rows a.q (laws a.q b.requires.0.0) a.n a.d a.m.now b.requires.0.1 b.requires.0.2 a.row.now b.requires.0.3
-    b.requires.1.1 _ (scaled s) in
+    scaled-rows a.q (laws a.q c.requires.0.0) a.n a.d a.m.now c.requires.0.1 c.requires.0.2 a.row.now c.requires.0.3
+    c.requires.1.1 _ (scaled s) in
     let last =
-    scaled-part a.q (laws a.q b.requires.0.0) a.n a.d a.m.now b.requires.0.1 b.requires.0.2 a.row.now b.requires.0.3
-    b.requires.1.1 _ (scaled s) in
+    scaled-part a.q (laws a.q c.requires.0.0) a.n a.d a.m.now c.requires.0.1 c.requires.0.2 a.row.now c.requires.0.3
+    c.requires.1.1 _ (scaled s) in
     let size =
     ap length (scaled s)
     ∙ put-length a.n (a.d * a.n) (monic a.q a.n (residue a.q a.n (rows_of a.n a.d a.m.now) a.row.now))
     a.m.now
-    (monic-is-row a.q (laws a.q b.requires.0.0) a.n a.d a.m.now b.requires.0.1 b.requires.0.2 a.row.now b.requires.0.3
-    b.requires.1.1).0 b.requires.0.1
+    (monic-is-row a.q (laws a.q c.requires.0.0) a.n a.d a.m.now c.requires.0.1 c.requires.0.2 a.row.now c.requires.0.3
+    c.requires.1.1).0 c.requires.0.1
     in (
       (
-        b.requires.0.0,
-        omega (arith, size, b.requires.0.1),
-        subst (All (Row a.q a.n)) (sym rows) b.requires.0.2.rows,
-        subst (Row a.q a.n) (sym last) (monic-is-row a.q (laws a.q b.requires.0.0) a.n a.d a.m.now b.requires.0.1
-            b.requires.0.2 a.row.now b.requires.0.3 b.requires.1.1),
+        c.requires.0.0,
+        omega (arith, size, c.requires.0.1),
+        subst (All (Row a.q a.n)) (sym rows) c.requires.0.2.rows,
+        subst (Row a.q a.n) (sym last) (monic-is-row a.q (laws a.q c.requires.0.0) a.n a.d a.m.now c.requires.0.1
+            c.requires.0.2 a.row.now c.requires.0.3 c.requires.1.1),
       ),
       (
-        b.requires.1.0.0,
-        b.requires.1.0.1 ∙ ap (leads a.n) (sym rows),
+        c.requires.1.0.0,
+        c.requires.1.0.1 ∙ ap (leads a.n) (sym rows),
         below f,
-        b.requires.1.0.2,
-        lead_is f.before ∙ scaled-lead a.q (laws a.q b.requires.0.0) a.n a.d a.m.now b.requires.0.1 b.requires.0.2
-            a.row.now b.requires.0.3 b.requires.1.1 _ (scaled s) (nonzero f),
+        c.requires.1.0.2,
+        lead_is f.before ∙ scaled-lead a.q (laws a.q c.requires.0.0) a.n a.d a.m.now c.requires.0.1 c.requires.0.2
+            a.row.now c.requires.0.3 c.requires.1.1 _ (scaled s) (nonzero f),
       ),
     )
 
-add-result : tie.Need-overflow-add-result
+add-result : tie.Need-overflow_add-result
 add-result c = search rules
 
-same-length-3 : tie.Need-same-length-3
+same-length-3 : tie.Need-shape_of-m
 same-length-3 c = search rules
 
-same-length-4 : tie.Need-same-length-4
+same-length-4 : tie.Need-shape_of-pivots
 same-length-4 c = search rules
 
-returns-2 : tie.Need-returns-2
+returns-2 : tie.Need-returns
 returns-2 c =
-    let p = c.before.before.before.before in
-    let s = p.before.before.before.before.before in
-    let f = s.before.before in
-    let b = s.before.before.before.before.before.before.before.before.before.before.before.before.before in
-    let a = b.args in (
-      one_more a.q (laws a.q b.requires.0.0) a.n a.d a.m.now b.requires.0.1 b.requires.0.2 a.row.now b.requires.0.3
-          b.requires.1.1 _ (scaled s) (nonzero f),
+    let s = c.before.before.before.before.before.before.before.before.before in
+    let f = c.before.before.before.before.before.before.before.before.before.before.before in
+    let a = c.args in (
+      one_more a.q (laws a.q c.requires.0.0) a.n a.d a.m.now c.requires.0.1 c.requires.0.2 a.row.now c.requires.0.3
+          c.requires.1.1 _ (scaled s) (nonzero f),
       (
-        insert-among a.q (laws a.q b.requires.0.0) a.n a.d a.m.now b.requires.0.1 b.requires.0.2 a.row.now
-            b.requires.0.3 b.requires.1.1 _ (scaled s) (nonzero f) _ p.put-among.ensures.0,
-        p.put-among.ensures.1 ∙ ap (leads a.n) (among-result a.q (laws a.q b.requires.0.0) a.n a.d a.m.now
-            b.requires.0.1 b.requires.0.2 a.row.now b.requires.0.3 b.requires.1.1 _ (scaled s) (nonzero f)),
+        insert-among a.q (laws a.q c.requires.0.0) a.n a.d a.m.now c.requires.0.1 c.requires.0.2 a.row.now
+            c.requires.0.3 c.requires.1.1 _ (scaled s) (nonzero f) _ c.put_among.ensures.0,
+        c.put_among.ensures.1 ∙ ap (leads a.n) (among-result a.q (laws a.q c.requires.0.0) a.n a.d a.m.now
+            c.requires.0.1 c.requires.0.2 a.row.now c.requires.0.3 c.requires.1.1 _ (scaled s) (nonzero f)),
       ),
     )
 
-pub insert-residue-spec : {M : Type 1} → statement M
-insert-residue-spec =
+pub insert_residue_spec : {M : Type 1} → statement M
+insert_residue_spec =
     tie.close
     (tie.spec
     residue-requires

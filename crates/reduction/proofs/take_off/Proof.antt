@@ -15,36 +15,36 @@ use Rattle.reduction.proofs.take_off.Statement.{statement}
 use Rattle.reduction.proofs.take_off.Tie as tie
 
 copy-requires : tie.Need-copy-requires
-copy-requires c κs = let b = c.before.before.before in omega (arith, b.requires.0.2.0, b.requires.0.4)
+copy-requires c κs = omega (arith, c.requires.0.2.0, c.requires.0.4)
 
 -- the bytes once the row is copied
-module _ (c : tie.After-eliminate-arg) where
+module _ (c : tie.After-eliminate-arg-1) where
   abbrev start : tie.Start
   start = c.before.before.before.before.before.before.before
 
   copied : List ℕ
-  copied = c.before.before.before.copy.new.1.0
+  copied = c.copy.new.target
 
   copied_is : copied ≡ put start.args.n 0 start.args.row.now start.args.work.now
   unfolding copied
   copied_is =
       let a = start.args in
-      c.before.before.before.copy.ensures ∙ pasted a.n 0 a.row.now a.work.now start.pre.0.2.0
+      c.copy.ensures ∙ pasted a.n 0 a.row.now a.work.now start.requires.0.2.0
 
   wide : length copied ≡ length start.args.work.now
   wide =
       let a = start.args in
-      ap length copied_is ∙ placed-length a.n a.row.now a.work.now start.pre.0.2.0 start.pre.0.4
+      ap length copied_is ∙ placed-length a.n a.row.now a.work.now start.requires.0.2.0 start.requires.0.4
 
   front : part start.args.n 0 copied ≡ start.args.row.now
   front =
       let a = start.args in
-      ap (part a.n 0) copied_is ∙ placed-front a.n a.row.now a.work.now start.pre.0.2.0 start.pre.0.4
+      ap (part a.n 0) copied_is ∙ placed-front a.n a.row.now a.work.now start.requires.0.2.0 start.requires.0.4
 
   behind : part start.args.n start.args.n copied ≡ part start.args.n start.args.n start.args.work.now
   behind =
       let a = start.args in
-      ap (part a.n a.n) copied_is ∙ placed-behind a.n a.row.now a.work.now start.pre.0.2.0 start.pre.0.4
+      ap (part a.n a.n) copied_is ∙ placed-behind a.n a.row.now a.work.now start.requires.0.2.0 start.requires.0.4
 
 eliminate-requires : tie.Need-eliminate-requires
 unfolding copied
@@ -61,7 +61,7 @@ eliminate-requires c κs =
       (omega (arith, wide c, p.0.4), omega (arith, wide c, p.0.4), p.1 ∙ ap (lead_of a.n) (sym (front c))),
     )
 
-same_length : tie.Need-same-length
+same_length : tie.Need-shape_of-work
 same_length c = search rules
 
 returns : tie.Need-returns
@@ -69,9 +69,9 @@ unfolding copied
 returns c =
     let f = c.before.before.before in
     let a = (start f).args in
-    c.before.before.eliminate.ensures
+    c.eliminate.ensures
     ∙ ap₂ (λ x y. put a.n a.n (eliminate a.q a.n x y) (copied f)) (front f) (behind f)
     ∙ ap (put a.n a.n (eliminate a.q a.n a.row.now (part a.n a.n a.work.now))) (copied_is f)
 
-pub take-off-spec : {M : Type 1} → statement M
-take-off-spec = tie.close (tie.spec copy-requires eliminate-requires same_length returns)
+pub take_off_spec : {M : Type 1} → statement M
+take_off_spec = tie.close (tie.spec copy-requires eliminate-requires same_length returns)
