@@ -21,16 +21,16 @@ left b doubled =
 copy-requires : tie.Need-copy-requires
 copy-requires c κs = search rules
 
-add-next : tie.Need-overflow-add-next
+add-next : tie.Need-overflow_add-next
 add-next c = search rules
 
-copy-requires-2 : tie.Need-copy-requires-2
+copy-requires-2 : tie.Need-copy-requires-then-doubled
 copy-requires-2 c κs = search rules
 
-same_length : tie.Need-same-length
+same_length : tie.Need-shape_of-out-then-doubled
 same_length c = search rules
 
-returns : tie.Need-returns
+returns : tie.Need-returns-then-doubled
 unfolding left
 returns c =
     let k = c.before.before in
@@ -39,23 +39,23 @@ returns c =
     let b = f.before.before.before.before in
     let a = b.args in
     let next = a.at + length a.row.now in
-    k.copy2.ensures
+    k.copy-then-doubled.ensures
     ∙ ap (λ x. paste x next a.row.now (length a.row.now)) f.copy.ensures
     ∙ row-beside-itself a.out.now a.row.now a.at b.requires.1 b.requires.0
-    ∙ ap (left b) (sym t.if1.true)
+    ∙ ap (left b) (sym t.if-doubled.true)
 
-same-length-2 : tie.Need-same-length-2
+same-length-2 : tie.Need-shape_of-out-else-doubled
 same-length-2 c = search rules
 
-returns-2 : tie.Need-returns-2
+returns-2 : tie.Need-returns-else-doubled
 unfolding left
 returns-2 c =
     let f = c.before.before.before in
     let b = f.before.before.before.before in
     let a = b.args in
-    f.copy.ensures ∙ row-beside-zero a.out.now a.row.now a.at b.requires.1 b.requires.0 ∙ ap (left b) (sym c.if1.false)
+    f.copy.ensures ∙ row-beside-zero a.out.now a.row.now a.at b.requires.1 b.requires.0 ∙ ap (left b) (sym c.if-doubled.false)
 
-pub stack-row-spec : {M : Type 1} → statement M
-stack-row-spec =
+pub stack_row_spec : {M : Type 1} → statement M
+stack_row_spec =
     tie.close
     (tie.spec copy-requires add-next copy-requires-2 same_length returns same-length-2 returns-2)
