@@ -52,7 +52,7 @@ sum_step f N c t e h a s =
     ∙ ap (λ x. sum (N - suc c) (λ i. f (suc i)) + x + e) (sym (ap f d) ∙ a)
     ∙ add_assoc (sum (N - suc c) (λ i. f (suc i))) t e
 
-pub formula-from : {q N K k c : ℕ} {m : List ℕ} {s : Shape} → 0 < q → Peeled q (entry N m) k c s → Located q N K m k c s
+pub formula-from : {q N K : ℕ} {m : List ℕ} {k c : ℕ} {s : Shape} → 0 < q → Peeled q (entry N m) k c s → Located q N K m k c s
     → sum N (λ i. extended_term q N K m (suc i)) ≡ sum (N - c) (λ i. extended_term q N K m (suc i)) + extended_rank q s k c
 unfolding extended_rank
 formula-from {q} {N} {K} {m} h peeled-empty l = rw (sub-zero N) (sym (add-zero (sum N (λ i. extended_term q N K m (suc i)))))
