@@ -6,7 +6,7 @@ use borrow.Author.Rules.{rules}
 use Rattle.partitions.proofs.box_begin.Statement.{statement}
 use Rattle.partitions.proofs.box_begin.Tie as tie
 
-half-place-requires : tie.Need-half-place-requires
+half-place-requires : tie.Need-half_place-requires
 half-place-requires c κs = search rules
 
 begin-requires : tie.Need-begin-requires
@@ -15,5 +15,5 @@ begin-requires c κs = search rules
 returns : tie.Need-returns
 returns c = c.begin.ensures ∙ ap (λ t. get_or begins t 0) c.before.half_place.ensures
 
-pub box-begin-spec : {M : Type 1} → statement M
-box-begin-spec = tie.close (tie.spec half-place-requires begin-requires returns)
+pub box_begin_spec : {M : Type 1} → statement M
+box_begin_spec = tie.close (tie.spec half-place-requires begin-requires returns)

@@ -17,7 +17,7 @@ room c = omega (arith, c.requires.3, box-short c.args.n (omega arith) c.args.k (
 nearer-requires : tie.Need-nearer-requires
 nearer-requires c κs = c.requires.4
 
-add-packed : tie.Need-overflow-add-packed
+add-packed : tie.Need-overflow_add-begin
 add-packed c =
     let s = c.before in
     let a = s.args in
@@ -36,5 +36,5 @@ returns c =
     ∙ ap₂ (λ x y. packed (x + y)) s.requires.2 (v.nearer.ensures ∙ ap (λ l. nearer l a.m) s.requires.3)
     ∙ box-at a.n a.k a.m s.requires.0 s.requires.1 (subst (λ l. a.m ≤ l) s.requires.3 s.requires.4)
 
-pub box-entry-spec : {M : Type 1} → statement M
-box-entry-spec = tie.close (tie.spec nearer-requires add-packed packed-requires returns)
+pub box_entry_spec : {M : Type 1} → statement M
+box_entry_spec = tie.close (tie.spec nearer-requires add-packed packed-requires returns)

@@ -8,14 +8,14 @@ use Rattle.partitions.proofs.packed.Tie as tie
 word-requires : tie.Need-word-requires
 word-requires c κs = search rules
 
-mul-result : tie.Need-overflow-mul-result
+mul-result : tie.Need-overflow_mul-result
 mul-result c = search rules
 
-shr-result : tie.Need-overflow-shr-result
+shr-result : tie.Need-overflow_shr-result
 shr-result c = search rules
 
 returns : tie.Need-returns
 returns c = ap (λ w. w / 2 ^ (c.before.args.i % 4 * 16) % 65536) c.word.ensures
 
-pub packed-spec : {M : Type 1} → statement M
-packed-spec = tie.close (tie.spec word-requires mul-result shr-result returns)
+pub packed_spec : {M : Type 1} → statement M
+packed_spec = tie.close (tie.spec word-requires mul-result shr-result returns)
