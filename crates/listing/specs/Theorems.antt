@@ -20,7 +20,7 @@ use Rattle.settings_line.specs.Theorems.{parsed-bounded}
 use Rattle.settings_line.specs.declared.Parsed.{Parsed}
 use Rattle.settings_line.specs.declared.Parsed.TheVariants.{Settings as settings, Malformed}
 use Rattle.text.specs.Piece.{fits}
-use Rattle.text.specs.Theorems.{piece-fits}
+use Rattle.text.proofs.Theorems.{piece-fits}
 use Rattle.listing.specs.Line.{line_room, longest_line}
 use Rattle.listing.specs.Listing.{listing_line, lines_from, column_names, header, refused_word, refused_line, output_for}
 use Rattle.listing.specs.Listing.{listing_output}

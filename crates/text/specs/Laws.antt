@@ -1,3 +1,2 @@
 -- Laws that the proofs cite; no part of the meaning.
 pub mod Numeral
-pub mod Piece

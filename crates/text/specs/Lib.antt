@@ -2,5 +2,4 @@
 pub mod Text
 pub mod Word
 pub mod Piece
-pub mod Theorems
 pub mod Laws

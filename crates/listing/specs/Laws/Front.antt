@@ -8,7 +8,7 @@ use Rattle.std.specs.Prelude.{◌≡◌, List, ◌++◌, ℕ, ◌+◌, ◌≤◌
 use Rattle.std.proofs.Common.{ap, ◌∙◌, sym, append_assoc, arith, length-append, length-drop, take-append-drop, drop-drop}
 use Rattle.std.proofs.lemmas.List.{drop-append-le}
 use Rattle.text.specs.Piece.{joined, Composed}
-use Rattle.text.specs.Laws.Piece.{pieces-put}
+use Rattle.text.proofs.Piece.{pieces-put}
 use Rattle.listing.specs.Front.{written}
 
 pub written-length : (start s : List ℕ) → length s ≤ length start → length (written s start) ≡ length start

@@ -10,7 +10,7 @@ use lib.ListN.{length, set, length-set}
 use lib.Seq.{paste, paste-zero, paste-suc}
 use Rattle.text.specs.Piece.{fits}
 use Rattle.rows_text.specs.Rows.{rows_text}
-use Rattle.text.specs.Laws.Piece.{refused, fitted}
+use Rattle.text.proofs.Piece.{refused, fitted}
 use Rattle.rows_text.specs.Laws.Rows.{rows_text-length}
 use Rattle.rows_text.proofs.append_rows.Statement.{statement}
 use Rattle.rows_text.proofs.append_rows.Tie as tie

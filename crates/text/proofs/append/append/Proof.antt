@@ -4,7 +4,7 @@ use native.Mathlib.Omega.{arith}
 use borrow.Author.Rules.{rules}
 use lib.ListN.{length}
 use borrow.Author.Tests.{leb-true}
-use Rattle.text.specs.Laws.Piece.{refused, fitted}
+use Rattle.text.proofs.Piece.{refused, fitted}
 use Rattle.text.proofs.append.append.Statement.{statement}
 use Rattle.text.proofs.append.append.Tie as tie
 

@@ -3,7 +3,7 @@ use native.Mathlib.Omega.{arith}
 use mathlib.Core.Path.{sym}
 use Prim.Native.Nat.{◌+◌}
 use borrow.Author.Tests.{lt-leb}
-use Rattle.text.specs.Laws.Piece.{room-decided}
+use Rattle.text.proofs.Piece.{room-decided}
 use Rattle.text.proofs.append.has_room.Statement.{statement}
 use Rattle.text.proofs.append.has_room.Tie as tie
 

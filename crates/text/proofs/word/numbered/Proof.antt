@@ -4,7 +4,7 @@ use native.Mathlib.Omega.{arith}
 use lib.ListN.{length, replicate}
 use Rattle.text.specs.Text.{numeral}
 use Rattle.text.specs.Laws.Numeral.{numeral-length}
-use Rattle.text.specs.Laws.Piece.{front-put}
+use Rattle.text.proofs.Piece.{front-put}
 use borrow.Author.Rules.{rules}
 use Rattle.text.proofs.word.numbered.Statement.{statement}
 use Rattle.text.proofs.word.numbered.Tie as tie

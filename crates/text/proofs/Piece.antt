@@ -14,7 +14,7 @@ use Rattle.std.proofs.Math.Seq.{paste, paste-zero, take-length}
 use Rattle.std.proofs.lemmas.List.Edits.{take-paste, drop-paste, length-paste}
 use Rattle.basics.specs.Laws.Order.{le-or-lt}
 use Rattle.text.specs.Piece.{fits, place_after, buffer_after, joined, place_with, buffer_with, Appended, Composed}
-use Rattle.text.specs.Theorems.{piece-fits, fits-piece}
+use Rattle.text.proofs.Theorems.{piece-fits, fits-piece}
 
 module _ (buffer : List ℕ) (at : ℕ) (piece : List ℕ) where
   pub refused : fits (length buffer) at piece ≡ false → Appended buffer at piece (record { at = at; fits = false }) buffer

@@ -1,0 +1,3 @@
+-- The theorems, and the lemmas of pieces.
+pub mod Theorems
+pub mod Piece
