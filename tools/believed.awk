@@ -48,7 +48,7 @@ function binds(line,    out, rest, group) {
 }
 
 # Notes what a `use` line brings into the file.
-function imports(file, line,    crate, module, names, n, i, part, own, type) {
+function imports(file, line,    crate, module, folder, names, n, i, part, own, type) {
     sub(/;.*/, "", line)
     sub(/^(ghost )?use /, "", line)
     names = line
@@ -63,7 +63,8 @@ function imports(file, line,    crate, module, names, n, i, part, own, type) {
     sub(/^Rattle\./, "", crate)
     sub(/\..*/, "", crate)
     if (module ~ /^Rattle\./ && crate in ours) {
-        sub(/^Rattle\.[a-z_]+\.specs\./, "", module)
+        folder = module ~ /^Rattle\.[a-z_]+\.proofs\./ ? "/proofs/" : "/specs/"
+        sub(/^Rattle\.[a-z_]+\.(specs|proofs)\./, "", module)
         if (module ~ /^declared\./) {
             type = module
             sub(/^declared\./, "", type)
@@ -82,7 +83,7 @@ function imports(file, line,    crate, module, names, n, i, part, own, type) {
             return
         }
         gsub(/\./, "/", module)
-        module = "crates/" crate "/specs/" module ".antt"
+        module = "crates/" crate folder module ".antt"
     } else if (module ~ /::/) {
         # a type of another crate, in a source
         n = split(module, part, "::")
@@ -477,7 +478,7 @@ function fail(what) {
 function place(file,    out) {
     out = file
     sub(/^crates\//, "", out)
-    sub(/\/specs\//, "/", out)
+    sub(/\/(specs|proofs)\//, "/", out)
     sub(/\/src\/.*/, "", out)
     sub(/\.antt$/, "", out)
     return out
@@ -577,7 +578,7 @@ END {
                 if (index(source[f], "crates/" c[j] "/src/") == 1) show_file(source[f], "type")
             for (f = 1; f <= ordered[c[j]]; f++) show_file(order[c[j], f], "")
             for (f = 1; f <= sources; f++)
-                if (index(source[f], "crates/" c[j] "/specs/") == 1 && !(source[f] in known_file)) show_file(source[f], "")
+                if (source[f] ~ "^crates/" c[j] "/(specs|proofs)/" && !(source[f] in known_file)) show_file(source[f], "")
             for (f = 1; f <= sources; f++)
                 if (index(source[f], "crates/" c[j] "/src/") == 1) show_file(source[f], "function")
         }

@@ -53,9 +53,14 @@ function at(path, what, token) {
         miss(token, "no file " path)
 }
 
-function spec(token) {
+# A file of specs/, or else of the theorems that stand in proofs/.
+function spec(token,   other) {
+    other = token
     sub(/\//, "/specs/", token)
-    return "crates/" token ".antt"
+    sub(/\//, "/proofs/", other)
+    token = "crates/" token ".antt"
+    other = "crates/" other ".antt"
+    return !(token in exists) && (other in exists) ? other : token
 }
 
 function edit(token) {
