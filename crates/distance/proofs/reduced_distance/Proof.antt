@@ -23,21 +23,21 @@ module _ (s : tie.Start) where
   us = let a = s.args in rows_of a.n a.first_count a.first.now
 
   abbrev vs : List (List ℕ)
-  vs = let a = s.args in rows_of a.n a.second-count a.second.now
+  vs = let a = s.args in rows_of a.n a.second_count a.second.now
 
   law : Laws s.args.q
-  law = laws _ s.pre.0.field
+  law = laws _ s.requires.0.field
 
   first_rows : All (Row s.args.q s.args.n) us
-  first_rows = list-rows s.pre.0.field s.pre.0.first
+  first_rows = list-rows s.requires.0.field s.requires.0.first
 
   second-rows : All (Row s.args.q s.args.n) vs
-  second-rows = list-rows s.pre.0.field s.pre.0.second
+  second-rows = list-rows s.requires.0.field s.requires.0.second
 
-slice-aggregate-insert-rows : tie.Need-slice-aggregate-insert-rows
+slice-aggregate-insert-rows : tie.Need-slice_bounds-insert_rows-end
 slice-aggregate-insert-rows c = search rules
 
-insert-rows-requires : tie.Need-insert-rows-requires
+insert-rows-requires : tie.Need-insert_rows-first_dimension-requires
 insert-rows-requires c κs =
     let s = c.before.before.before.before.before.before in
     let ok = s.requires.0 in
@@ -47,111 +47,111 @@ insert-rows-requires c κs =
     )
 
 -- what the first call leaves
-module _ (c : tie.After-insert-rows) where
+module _ (c : tie.After-insert_rows-first_dimension) where
   abbrev start : tie.Start
   start = c.before.before.before.before.before.before.before
 
   abbrev matrix : List ℕ
-  matrix = c.insert-rows.new.1.1.1.1.1.0
+  matrix = c.insert_rows-first_dimension.new.m
 
   abbrev pivots : List ℕ
-  pivots = c.insert-rows.new.1.1.1.1.1.1.0
+  pivots = c.insert_rows-first_dimension.new.pivots
 
   holds-first : let a = start.args in
-      Holds a.q a.n (reduced_rows a.q a.n (us start)) c.insert-rows.result matrix pivots
+      Holds a.q a.n (reduced_rows a.q a.n (us start)) c.insert_rows-first_dimension.result matrix pivots
   holds-first =
-      let told = c.insert-rows.ensures in
+      let told = c.insert_rows-first_dimension.ensures in
       holds-reduced _ (law start) _ (us start) (first_rows start) _ told.0 told.1.0 told.1.1
 
-slice-aggregate-insert-rows-2 : tie.Need-slice-aggregate-insert-rows-2
+slice-aggregate-insert-rows-2 : tie.Need-slice_bounds-insert_rows-end-2
 slice-aggregate-insert-rows-2 c = search rules
 
-insert-rows-requires-2 : tie.Need-insert-rows-requires-2
+insert-rows-requires-2 : tie.Need-insert_rows-second_dimension-requires
 insert-rows-requires-2 c κs =
     let s = start c.before.before.before.before.before in
-    let ok = s.pre.0 in
-    let asks = holds-nothing _ (law s) _ _ s.pre.1.1 in (
+    let ok = s.requires.0 in
+    let asks = holds-nothing _ (law s) _ _ s.requires.1.1 in (
       (ok.field, asks.0, asks.1),
       ((ok.narrow, asks.2, omega (arith, ok.narrow)), (ok.second.sized, entries_below_lem _ _ ok.second.below)),
     )
 
 -- what the second call leaves
-module _ (c : tie.After-insert-rows2) where
-  abbrev one : tie.After-insert-rows
+module _ (c : tie.After-insert_rows-second_dimension) where
+  abbrev one : tie.After-insert_rows-first_dimension
   one = c.before.before.before.before.before.before
 
   abbrev other : List ℕ
-  other = c.insert-rows2.new.1.1.1.1.1.0
+  other = c.insert_rows-second_dimension.new.m
 
   abbrev others : List ℕ
-  others = c.insert-rows2.new.1.1.1.1.1.1.0
+  others = c.insert_rows-second_dimension.new.pivots
 
   holds-second : let a = (start one).args in
-      Holds a.q a.n (reduced_rows a.q a.n (vs (start one))) c.insert-rows2.result other others
+      Holds a.q a.n (reduced_rows a.q a.n (vs (start one))) c.insert_rows-second_dimension.result other others
   holds-second =
       let s = start one in
-      let told = c.insert-rows2.ensures in
+      let told = c.insert_rows-second_dimension.ensures in
       holds-reduced _ (law s) _ (vs s) (second-rows s) _ told.0 told.1.0 told.1.1
 
 -- the second list's reduced rows end within the bytes
-fits : (c : tie.After-insert-rows2) → c.insert-rows2.result * (start (one c)).args.n ≤ length (other c)
+fits : (c : tie.After-insert_rows-second_dimension) → c.insert_rows-second_dimension.result * (start (one c)).args.n ≤ length (other c)
 fits c = omega (arith, simp length-take at (holds-front _ (law (start (one c))) _ (holds-second c)).1)
 
-mul-insert-rows : tie.Need-overflow-mul-insert-rows
+mul-insert-rows : tie.Need-overflow_mul-second_dimension
 mul-insert-rows c = omega (arith, fits c.before.before.before)
 
-slice-reshare-prefix-insert-rows : tie.Need-slice-reshare-prefix-insert-rows
+slice-reshare-prefix-insert-rows : tie.Need-slice_bounds-insert_rows-end-3
 slice-reshare-prefix-insert-rows c = fits c.before.before.before
 
-slice-aggregate-insert-rows-3 : tie.Need-slice-aggregate-insert-rows-3
+slice-aggregate-insert-rows-3 : tie.Need-slice_bounds-insert_rows-end-4
 slice-aggregate-insert-rows-3 c =
-    let t = c.before.before.before.before in
+    let t = c.before.before.before in
     sym (holds-front _ (law (start (one t))) _ (holds-second t)).1
 
-slice-aggregate-insert-rows-4 : tie.Need-slice-aggregate-insert-rows-4
+slice-aggregate-insert-rows-4 : tie.Need-slice_bounds-insert_rows-end-5
 slice-aggregate-insert-rows-4 c = search rules
 
-insert-rows-requires-3 : tie.Need-insert-rows-requires-3
+insert-rows-requires-3 : tie.Need-insert_rows-joint-requires
 insert-rows-requires-3 c κs =
-    let t = c.before.before.before.before.before.before in
+    let t = c.before.before.before.before.before in
     let s = start (one t) in
-    let ok = s.pre.0 in
+    let ok = s.requires.0 in
     let asks = holds-asks _ (law s) _ (holds-first (one t)) in
     let read = holds-front _ (law s) _ (holds-second t) in (
       (ok.field, asks.0, asks.1),
       (
-        (omega (arith, ok.narrow, (one t).insert-rows.auto.1.1.1.1.1.1.0), asks.2, omega (arith, ok.narrow)),
+        (omega (arith, ok.narrow, (one t).insert_rows-first_dimension.auto.pivots), asks.2, omega (arith, ok.narrow)),
         (read.1, read.3),
       ),
     )
 
 -- what the third call answers
-module _ (c : tie.After-insert-rows3) where
-  abbrev two : tie.After-insert-rows2
-  two = c.before.before.before.before.before.before.before
+module _ (c : tie.After-insert_rows-joint) where
+  abbrev two : tie.After-insert_rows-second_dimension
+  two = c.before.before.before.before.before.before
 
-  low : ((one two).insert-rows.result ≤ c.insert-rows3.result) × (two.insert-rows2.result ≤ c.insert-rows3.result)
-      × (c.insert-rows3.result ≤ (start (one two)).args.n)
+  low : ((one two).insert_rows-first_dimension.result ≤ c.insert_rows-joint.result) × (two.insert_rows-second_dimension.result ≤ c.insert_rows-joint.result)
+      × (c.insert_rows-joint.result ≤ (start (one two)).args.n)
   low =
       let s = start (one two) in
       distance-low _ (law s) _ (us s) (vs s) (first_rows s) (second-rows s) (holds-first (one two)) (holds-second two)
-      c.insert-rows3.result c.insert-rows3.ensures.0
+      c.insert_rows-joint.result c.insert_rows-joint.ensures.0
 
-mul-result : tie.Need-overflow-mul-result
+mul-result : tie.Need-overflow_mul-result
 mul-result c =
     let j = c.before.before.before in
-    omega (arith, (low j).2, (start (one (two j))).pre.0.narrow)
+    omega (arith, (low j).2, (start (one (two j))).requires.0.narrow)
 
-sub-result : tie.Need-overflow-sub-result
+sub-result : tie.Need-overflow_sub-result
 sub-result c = let l = low c.before.before.before in omega (arith, l.0)
 
-sub-result-2 : tie.Need-overflow-sub-result-2
+sub-result-2 : tie.Need-overflow_sub-result-2
 sub-result-2 c = let l = low c.before.before.before in omega (arith, l.0, l.1)
 
-same_length : tie.Need-same-length
+same_length : tie.Need-shape_of-matrix
 same_length c = search rules
 
-same-length-2 : tie.Need-same-length-2
+same-length-2 : tie.Need-shape_of-other
 same-length-2 c = search rules
 
 returns : tie.Need-returns
@@ -160,10 +160,10 @@ returns c =
     let t = two j in
     let s = start (one t) in
     distance-found _ (law s) _ (us s) (vs s) (first_rows s) (second-rows s) (holds-first (one t)) (holds-second t)
-    j.insert-rows3.result j.insert-rows3.ensures.0
+    j.insert_rows-joint.result j.insert_rows-joint.ensures.0
 
-pub reduced-distance-spec : {M : Type 1} → statement M
-reduced-distance-spec =
+pub reduced_distance_spec : {M : Type 1} → statement M
+reduced_distance_spec =
     tie.close
     (tie.spec
     slice-aggregate-insert-rows
