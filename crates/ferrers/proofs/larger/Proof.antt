@@ -8,51 +8,51 @@ use Rattle.partitions.specs.Laws.Box.{box-short}
 use Rattle.ferrers.proofs.larger.Statement.{statement}
 use Rattle.ferrers.proofs.larger.Tie as tie
 
-abbrev invariant-loop : tie.invariant-loop
+abbrev invariant-loop : tie.invariant-loop-i
 invariant-loop q n k m begin limit sum₀ i₀ sum i = (m ≤ i) × Adding q n k sum i
 
-abbrev decreases-loop : tie.decreases-loop
+abbrev decreases-loop : tie.decreases-loop-i
 decreases-loop q n k m begin limit sum₀ i₀ sum i = i
 
-box-begin-requires : tie.Need-box-begin-requires invariant-loop decreases-loop
+box-begin-requires : tie.Need-box_begin-begin-requires invariant-loop decreases-loop
 box-begin-requires c κs = (c.requires.0.narrow, c.requires.0.dimension)
 
-sub-limit : tie.Need-overflow-sub-limit invariant-loop decreases-loop
+sub-limit : tie.Need-overflow_sub-limit invariant-loop decreases-loop
 sub-limit c = omega arith
 
-mul-limit : tie.Need-overflow-mul-limit invariant-loop decreases-loop
+mul-limit : tie.Need-overflow_mul-limit invariant-loop decreases-loop
 mul-limit c = let a = c.before.args in omega (arith, box-short a.n (omega arith) a.k (omega arith))
 
-loop-holds : tie.Need-loop-init invariant-loop decreases-loop
+loop-holds : tie.Need-loop-i-init invariant-loop decreases-loop
 loop-holds c = (omega (arith, c.before.requires.1), adding-start _ _ _)
 
-weight-requires : tie.Need-weight-requires invariant-loop decreases-loop
-weight-requires c κs = let b = c.before.before in (b.before.requires.0, b.box-begin.ensures, refl, c.before.loop.invariant.1.within)
+weight-requires : tie.Need-weight-sum-requires invariant-loop decreases-loop
+weight-requires c κs = let b = c.before.before in (b.before.requires.0, b.box_begin-begin.ensures, refl, c.before.loop-i.invariant.1.within)
 
-stepped : (c : tie.After-weight invariant-loop decreases-loop) →
+stepped : (c : tie.After-weight-sum invariant-loop decreases-loop) →
     let l = c.before.before in let a = l.before.before.args in
-    (l.loop.sum + c.weight.result ≤ greatest_count) × Adding a.q a.n a.k (l.loop.sum + c.weight.result) (l.loop.i - 1)
+    (l.loop-i.sum + c.weight-sum.result ≤ greatest_count) × Adding a.q a.n a.k (l.loop-i.sum + c.weight-sum.result) (l.loop-i.i - 1)
 stepped c =
     let l = c.before.before in
-    adding-step c.weight.result l.before.before.requires.0 (omega arith) c.weight.ensures l.loop.invariant.1
+    adding-step c.weight-sum.result l.before.before.requires.0 (omega arith) c.weight-sum.ensures l.loop-i.invariant.1
 
-add-sum : tie.Need-overflow-add-sum invariant-loop decreases-loop
+add-sum : tie.Need-overflow_add-sum invariant-loop decreases-loop
 add-sum c = omega (arith, (stepped c).0)
 
-sub-i : tie.Need-overflow-sub-i invariant-loop decreases-loop
+sub-i : tie.Need-overflow_sub-i invariant-loop decreases-loop
 sub-i c = omega arith
 
-loop-less : tie.Need-loop-smaller invariant-loop decreases-loop
+loop-less : tie.Need-loop-i-smaller invariant-loop decreases-loop
 loop-less c = omega arith
 
-loop-again : tie.Need-loop-preserved invariant-loop decreases-loop
+loop-again : tie.Need-loop-i-preserved invariant-loop decreases-loop
 loop-again c = (omega arith, (stepped c).1)
 
 returns : tie.Need-returns invariant-loop decreases-loop
-returns c = adding-end c.before.before.before.requires.0 (omega arith) c.before.loop.invariant.1
+returns c = adding-end c.before.before.before.requires.0 (omega arith) c.before.loop-i.invariant.1
 
-pub larger-spec : {M : Type 1} → statement M
-larger-spec =
+pub larger_spec : {M : Type 1} → statement M
+larger_spec =
     tie.close
     (tie.spec
     invariant-loop

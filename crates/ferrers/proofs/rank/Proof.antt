@@ -9,19 +9,19 @@ use Rattle.ferrers.specs.Laws.Weight.{sizes}
 use Rattle.ferrers.proofs.rank.Statement.{statement}
 use Rattle.ferrers.proofs.rank.Tie as tie
 
-size-of-requires : tie.Need-size-of-requires
+size-of-requires : tie.Need-size_of-total-requires
 size-of-requires c κs = search rules
 
-place-of-requires : tie.Need-place-of-requires
+place-of-requires : tie.Need-place_of-place-requires
 place-of-requires c κs = search rules
 
-tableau-of-requires : tie.Need-tableau-of-requires
+tableau-of-requires : tie.Need-tableau_of-tableau-requires
 tableau-of-requires c κs = search rules
 
-within : (c : tie.After-size-of) → let a = c.before.before.args in c.type_size.result ≤ a.k * (a.n - a.k)
+within : (c : tie.After-size_of-total) → let a = c.before.before.args in c.size_of-total.result ≤ a.k * (a.n - a.k)
 within c =
     let s = c.before.before in
-    omega (arith, c.type_size.ensures, (parts s.requires.0 s.requires.1).within)
+    omega (arith, c.size_of-total.ensures, (parts s.requires.0 s.requires.1).within)
 
 larger-requires : tie.Need-larger-requires
 larger-requires c κs = (c.before.before.before.before.requires.0, within c.before.before)
@@ -29,7 +29,7 @@ larger-requires c κs = (c.before.before.before.before.requires.0, within c.befo
 power-requires : tie.Need-power-requires
 power-requires c κs =
     let p = c.before.before.before in
-    let z = sizes p.type_size.result p.before.before.requires.0 (within p) in
+    let z = sizes p.size_of-total.result p.before.before.requires.0 (within p) in
     (z.size, z.short, z.power)
 
 -- the larger diagrams, and the product of the power and the place
@@ -38,35 +38,35 @@ counted : (c : tie.After-power) →
     c.before.larger.result ≡ larger_diagrams a.q a.k (a.n - a.k) (size a.n a.k a.m.now)
 counted c =
     let a = c.before.before.before.before.before.before.args in
-    c.before.larger.ensures ∙ ap (larger_diagrams a.q a.k (a.n - a.k)) c.before.before.before.before.type_size.ensures
+    c.before.larger.ensures ∙ ap (larger_diagrams a.q a.k (a.n - a.k)) c.before.before.before.before.size_of-total.ensures
 
 multiplied : (c : tie.After-power) →
     let a = c.before.before.before.before.before.before.args in
-    c.power.result * c.before.before.before.place_of.result
+    c.power.result * c.before.before.before.place_of-place.result
     ≡ a.q ^ size a.n a.k a.m.now * place_of a.n a.k a.m.now
 multiplied c =
     let a = c.before.before.before.before.before.before.args in
-    ap₂ ◌*◌ (c.power.ensures ∙ ap (◌^◌ a.q) c.before.before.before.before.type_size.ensures)
-    c.before.before.before.place_of.ensures
+    ap₂ ◌*◌ (c.power.ensures ∙ ap (◌^◌ a.q) c.before.before.before.before.size_of-total.ensures)
+    c.before.before.before.place_of-place.ensures
 
 all : (c : tie.After-power) → let a = c.before.before.before.before.before.before.args in Parts a.q a.n a.k a.m.now
 all c = let s = c.before.before.before.before.before.before in parts s.requires.0 s.requires.1
 
-mul-index : tie.Need-overflow-mul-index
+mul-index : tie.Need-overflow_mul-index
 mul-index c = omega (arith, multiplied c, (all c).product)
 
-add-index : tie.Need-overflow-add-index
+add-index : tie.Need-overflow_add-index
 add-index c = omega (arith, counted c, multiplied c, (all c).two)
 
 returns : tie.Need-returns
 unfolding ferrers_index
-returns c = ap₂ ◌+◌ (ap₂ ◌+◌ (counted c) (multiplied c)) c.before.before.tableau-of.ensures
+returns c = ap₂ ◌+◌ (ap₂ ◌+◌ (counted c) (multiplied c)) c.before.before.tableau_of-tableau.ensures
 
-add-index-2 : tie.Need-overflow-add-index-2
+add-index-2 : tie.Need-overflow_add-index-2
 add-index-2 c = omega (arith, returns c, (all c).index)
 
-pub rank-spec : {M : Type 1} → statement M
-rank-spec =
+pub rank_spec : {M : Type 1} → statement M
+rank_spec =
     tie.close
     (tie.spec
     size-of-requires

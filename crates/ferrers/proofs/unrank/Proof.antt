@@ -14,48 +14,48 @@ use Rattle.ferrers.specs.Laws.Weight.{Sizes, sizes}
 use Rattle.ferrers.proofs.unrank.Statement.{statement}
 use Rattle.ferrers.proofs.unrank.Tie as tie
 
-find-size-requires : tie.Need-find-size-requires
+find-size-requires : tie.Need-find_size-found-requires
 find-size-requires c κs = search rules
 
-sized : (c : tie.After-find-size) → let a = c.before.before.args in Sizes a.q a.n a.k c.find-size.result.size
-sized c = sizes c.find-size.result.size c.before.before.requires.0 c.find-size.ensures.within
+sized : (c : tie.After-find_size-found) → let a = c.before.before.args in Sizes a.q a.n a.k c.find_size-found.result.size
+sized c = sizes c.find_size-found.result.size c.before.before.requires.0 c.find_size-found.ensures.within
 
-power-requires : tie.Need-power-requires
+power-requires : tie.Need-power-base-requires
 power-requires c κs = let z = sized c in (z.size, z.short, z.power)
 
-positive : (c : tie.After-power) → 0 < c.power.result
-positive c = rw c.power.ensures (sized c.before).positive
+positive : (c : tie.After-power-base) → 0 < c.power-base.result
+positive c = rw c.power-base.ensures (sized c.before).positive
 
-div-vector-at : tie.Need-nonzero-div-vector-at
+div-vector-at : tie.Need-nonzero_div-found
 div-vector-at c = positive c.before
 
-vector-at-requires : tie.Need-vector-at-requires
+vector-at-requires : tie.Need-vector_at-v-requires
 vector-at-requires c κs =
     let p = c.before in
-    (p.before.before.before.requires.0.narrow, found-place _ p.power.ensures p.before.find-size.ensures (positive p))
+    (p.before.before.before.requires.0.narrow, found-place _ p.power-base.ensures p.before.find_size-found.ensures (positive p))
 
-rem-draw : tie.Need-nonzero-rem-draw
+rem-draw : tie.Need-nonzero_rem-found
 rem-draw c = positive c.before.before.before.before
 
-shaped : (c : tie.After-vector-at) →
-    let p = c.before.before in let found = p.before.find-size.result in let a = p.before.before.before.args in
-    Shaped a.q a.n a.k c.vector-at.result (found.rest % p.power.result)
-    (diagram_shape a.q a.n a.k found.size (found.rest / p.power.result) (found.rest % p.power.result))
+shaped : (c : tie.After-vector_at-v) →
+    let p = c.before.before in let found = p.before.find_size-found.result in let a = p.before.before.before.args in
+    Shaped a.q a.n a.k c.vector_at-v.result (found.rest % p.power-base.result)
+    (diagram_shape a.q a.n a.k found.size (found.rest / p.power-base.result) (found.rest % p.power-base.result))
 shaped c =
     let p = c.before.before in
     let s = p.before.before.before in
-    let found = p.before.find-size in
+    let found = p.before.find_size-found in
     let (big, small) = size_small s.args.q s.requires.0.size in
-    diagram-shaped _ _ _ found.result.size _ _ _ (omega arith) (found-place _ p.power.ensures found.ensures (positive p))
-    (subst (λ y. found.result.rest % p.power.result < y) p.power.ensures (mod-lt found.result.rest (positive p)))
-    c.vector-at.ensures
+    diagram-shaped _ _ _ found.result.size _ _ _ (omega arith) (found-place _ p.power-base.ensures found.ensures (positive p))
+    (subst (λ y. found.result.rest % p.power-base.result < y) p.power-base.ensures (mod-lt found.result.rest (positive p)))
+    c.vector_at-v.ensures
 
 draw-requires : tie.Need-draw-requires
 draw-requires c κs =
     let s = c.before.before.before.before.before.before.before in
     (s.requires.0, (_, shaped c.before.before), s.requires.2)
 
-same_length : tie.Need-same-length
+same_length : tie.Need-shape_of-m
 same_length c = search rules
 
 returns : tie.Need-returns
@@ -64,22 +64,14 @@ returns c =
     let p = v.before.before in
     let s = p.before.before.before in
     let a = s.args in
-    let drawn = found-drawn _ p.power.ensures p.before.find-size.ensures in (
+    let drawn = found-drawn _ p.power-base.ensures p.before.find_size-found.ensures in (
       c.before.before.draw.ensures _ (shaped v) ∙ drawn,
       sym (shaped v).vector-is
           ∙ sym (shape-vector (size_small a.q s.requires.0.size).0 (shaped v).valid)
           ∙ ap (identifying a.n a.k) drawn,
     )
 
-pub unrank-spec : {M : Type 1} → statement M
-unrank-spec =
+pub unrank_spec : {M : Type 1} → statement M
+unrank_spec =
     tie.close
-    (tie.spec
-    find-size-requires
-    power-requires
-    div-vector-at
-    vector-at-requires
-    rem-draw
-    draw-requires
-    same_length
-    returns)
+    (tie.spec find-size-requires power-requires div-vector-at vector-at-requires rem-draw draw-requires same_length returns)

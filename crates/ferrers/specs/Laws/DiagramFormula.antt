@@ -22,7 +22,7 @@ located-column-dots : {q N K k c : ℕ} {m : List ℕ} {s : Shape} → Located q
 unfolding dots
 located-column-dots l = rw (sub-sub_self l.columns) (located-dots l)
 
-diagram-walk : {q N K k c : ℕ} {m : List ℕ} {s : Shape} (j : ℕ) → j ≡ suc (N - c) → Peeled q (entry N m) k c s → Located q N K m k c s
+diagram-walk : {q N K : ℕ} {m : List ℕ} {k c : ℕ} {s : Shape} (j : ℕ) → j ≡ suc (N - c) → Peeled q (entry N m) k c s → Located q N K m k c s
     → map (dots N K m) (free_from N K m j c) ≡ heights s k
 unfolding free_from heights
 diagram-walk j e peeled-empty l = refl

@@ -67,7 +67,7 @@ read-pivot : {q k : ℕ} {xs : List ℕ} {s : Shape} → Read q xs k s → Read 
 unfolding shape_size shape_tableau
 read-pivot r = record { digits = r.digits; number = r.number }
 
-tableau-walk : {q N K k c : ℕ} {m : List ℕ} {s : Shape} (j : ℕ) → j ≡ suc (N - c) → Peeled q (entry N m) k c s → Located q N K m k c s
+tableau-walk : {q N K : ℕ} {m : List ℕ} {k c : ℕ} {s : Shape} (j : ℕ) → j ≡ suc (N - c) → Peeled q (entry N m) k c s → Located q N K m k c s
     → Read q (tableau_of N K m (free_from N K m j c)) k s
 unfolding free_from tableau_of shape_size shape_tableau value
 tableau-walk j e peeled-empty l = record { digits = refl; number = refl }
