@@ -7,7 +7,6 @@
 use Rattle.std.specs.Prelude.{◌≡◌, refl, List, [], ◌∷◌, ◌++◌, ℕ, get_or, drop}
 use Rattle.std.proofs.Common.{ap}
 use Rattle.linear.specs.Span.{All, none, more}
-use Rattle.linear.specs.Laws.Every.{all-parts}
 use Rattle.worked_examples.specs.Answer.{Example, answer}
 use Rattle.worked_examples.specs.Marked.{marked}
 use Rattle.worked_examples.specs.Readings.{readings}
@@ -92,15 +91,19 @@ unfolding place_after buffer_after listing_output column_names header lines_from
     stacked right_halves common_rows common_of common_dimension alike pool_refusal pooled pool_of joint_buffer common_buffer after accepted
 every = each (marked ++ (readings ++ refusals)) refl
 
--- the rows of the second and the third table
-after-marked : All Holds (readings ++ refusals)
-after-marked = (all-parts marked (readings ++ refusals) every).1
+front : {P : Example → Type 0} (xs ys : List Example) → All P (xs ++ ys) → All P xs
+front [] ys h = none
+front (x ∷ xs) ys (more p ps) = more p (front xs ys ps)
+
+behind : {P : Example → Type 0} (xs ys : List Example) → All P (xs ++ ys) → All P ys
+behind [] ys h = h
+behind (x ∷ xs) ys (more p ps) = behind xs ys ps
 
 pub examples-hold : All Holds marked
-examples-hold = (all-parts marked (readings ++ refusals) every).0
+examples-hold = front marked (readings ++ refusals) every
 
 pub readings-hold : All Holds readings
-readings-hold = (all-parts readings refusals after-marked).0
+readings-hold = front readings refusals (behind marked (readings ++ refusals) every)
 
 pub refusals-hold : All Holds refusals
-refusals-hold = (all-parts readings refusals after-marked).1
+refusals-hold = behind readings refusals (behind marked (readings ++ refusals) every)
