@@ -5,7 +5,7 @@
 --   typed-value     == the number of an index is the one it was made of
 -- Assumes nothing.
 use Rattle.std.specs.Prelude.{◌≡◌, refl, Bool, true, false, List, ℕ, ◌<◌, eqb}
-use Rattle.std.proofs.Common.{ap, sym, ◌∙◌, eq-eqb, ne_eqb}
+use Rattle.std.proofs.Common.{eq-eqb, ne_eqb}
 use Rattle.basics.specs.Choice.{pick}
 use Rattle.field.specs.Laws.Small.{size_small}
 use Rattle.counts.specs.Gaussian.{gaussian}
