@@ -12,24 +12,24 @@ use Rattle.draw.proofs.draw_index.Statement.{statement}
 use Rattle.draw.proofs.draw_index.Tie as tie
 
 -- an index of N or more is refused 5, and no other is refused
-beyond : (c : tie.Then1) (size : ℕ) → let a = c.before.before.args in
+beyond : (c : tie.Then-total-index) (size : ℕ) → let a = c.before.before.args in
     size ≡ a.k * a.n → draw_refusal a.q a.n a.k a.t a.index size ≡ index_refusal
 beyond c size sized =
     let s = c.before.before in
     let a = s.args in
-    draw-beyond a.q a.n a.k a.t a.index size s.requires.0 sized (omega (arith, s.requires.1, c.if1.true))
+    draw-beyond a.q a.n a.k a.t a.index size s.requires.0 sized (omega (arith, s.requires.1, c.if-total-index.true))
 
-unrefused : (c : tie.Else1) (size : ℕ) → let a = c.before.before.args in
+unrefused : (c : tie.Else-total-index) (size : ℕ) → let a = c.before.before.args in
     size ≡ a.k * a.n → draw_refusal a.q a.n a.k a.t a.index size ≡ 0
 unrefused c size sized =
     let s = c.before.before in
     let a = s.args in
-    draw-unrefused a.q a.n a.k a.t a.index size s.requires.0 sized (omega (arith, s.requires.1, c.if1.false))
+    draw-unrefused a.q a.n a.k a.t a.index size s.requires.0 sized (omega (arith, s.requires.1, c.if-total-index.false))
 
-cast-result : tie.Need-overflow-cast-result
+cast-result : tie.Need-overflow_cast-result
 cast-result c = search rules
 
-returns : tie.Need-returns
+returns : tie.Need-returns-then-total-index
 returns c =
     let s = c.before.before in
     let refused = beyond c (length s.args.matrix.now) s.requires.2 in
@@ -41,15 +41,15 @@ unrank-requires c κs =
     let a = draw-accepted _ _ _ _ _ _ (unrefused c.before _ refl) in
     (a.choice.settings, omega (arith, a.inside), s.requires.2)
 
-same_length : tie.Need-same-length
+same_length : tie.Need-shape_of-matrix
 same_length c = search rules
 
-returns-2 : tie.Need-returns-2
+returns-2 : tie.Need-returns
 returns-2 c =
     let e = c.before.before.before.before in
     let s = e.before.before in
     let drawn = c.before.before.unrank.ensures.0 in
     (sym (unrefused e (s.args.k * s.args.n) refl), drawn ∙ draw-leaves _ _ _ _ _ _ (unrefused e _ s.requires.2))
 
-pub draw-index-spec : {M : Type 1} → statement M
-draw-index-spec = tie.close (tie.spec cast-result returns unrank-requires same_length returns-2)
+pub draw_index_spec : {M : Type 1} → statement M
+draw_index_spec = tie.close (tie.spec cast-result returns unrank-requires same_length returns-2)
