@@ -14,7 +14,7 @@ use receive::Received;
 use reduce::Space;
 
 // The first n×n entries hold the reduced rows, then zeros; so are all others. The pack is the one whose rows are taken.
-#[derive(Drop)]
+#[derive(Clone, Copy)]
 pub struct Receiver {
     pub entries: [u8; 256],
     pub q: u64,

@@ -13,26 +13,26 @@ use Prim.Native.Nat.{ℕ}
 started : Receiver → ℕ → Started
 started r x = record { receiver = r; refusal = x }
 
-settings-refusal-requires : tie.Need-settings-refusal-requires
+settings-refusal-requires : tie.Need-settings_refusal-refusal-requires
 settings-refusal-requires c κs = search rules
 
-empty-receiver-requires : tie.Need-empty-receiver-requires
+empty-receiver-requires : tie.Need-empty_receiver-requires
 empty-receiver-requires c κs = search rules
 
-returns : tie.Need-returns
+returns : tie.Need-returns-then-refusal-ne0
 unfolding start_of started
 returns c =
-    let told = c.before.before.settings-refusal.ensures in
-    (ap₂ started (c.empty-receiver.ensures ∙ kept _ _ _ (λ z. c.before.if1.true (told ∙ z))) told, told)
+    let told = c.before.before.settings_refusal-refusal.ensures in
+    (ap₂ started (c.empty_receiver.ensures ∙ kept _ _ _ (λ z. c.before.if-refusal-ne0.true (told ∙ z))) told, told)
 
-empty-receiver-requires-2 : tie.Need-empty-receiver-requires-2
+empty-receiver-requires-2 : tie.Need-empty_receiver-requires-2
 empty-receiver-requires-2 c κs = search rules
 
-returns-2 : tie.Need-returns-2
+returns-2 : tie.Need-returns
 unfolding start_of started
 returns-2 c =
-    let z = sym c.before.before.settings-refusal.ensures ∙ c.before.if1.false in
-    (ap₂ started (c.empty-receiver2.ensures ∙ done _ _ _ z) (sym z), sym z)
+    let z = sym c.before.before.settings_refusal-refusal.ensures ∙ c.before.if-refusal-ne0.false in
+    (ap₂ started (c.empty_receiver-2.ensures ∙ done _ _ _ z) (sym z), sym z)
 
 pub start_spec : {M : Type 1} → statement M
 start_spec = tie.close (tie.spec settings-refusal-requires empty-receiver-requires returns empty-receiver-requires-2 returns-2)

@@ -6,7 +6,6 @@ use Prim.Native.Nat.{ℕ, ◌*◌, ◌-◌, ◌≤◌}
 use native.Mathlib.Omega.{arith}
 use lib.ListN.{length, length-drop}
 use lib.Seq.{length-take-le, take_all}
-use borrow.Author.Tests.{not-true, not-false}
 use Rattle.basics.specs.Choice.{pick}
 use Rattle.settings.specs.Laws.Accepted.{accepted}
 use Rattle.matrix.specs.Matrix.{entries_below, identifying}
@@ -33,31 +32,31 @@ packed s pack = let a = s.args in made (setup a.q a.n a.k pack) a.dimension a.en
 abbrev tested : tie.Start → Receiver
 tested s = packed s 0
 
-settled : (c : tie.Else2) → let r = tested c.before.before.before.before in setup_refusal (setup_of r) ≡ 0
-settled c = sym c.before.settings-refusal.ensures ∙ c.if2.false
+settled : (c : tie.Else-settings_refusal-ne0) → let r = tested c.before.before.before.before in setup_refusal (setup_of r) ≡ 0
+settled c = sym c.before.settings_refusal.ensures ∙ c.if-settings_refusal-ne0.false
 
-low : (c : tie.Else2) → let r = tested c.before.before.before.before in r.dimension ≤ r.n
-low c = omega (arith, c.before.before.if1.false)
+low : (c : tie.Else-settings_refusal-ne0) → let r = tested c.before.before.before.before in r.dimension ≤ r.n
+low c = omega (arith, c.before.before.if-n-dimension.false)
 
 -- the entries that are used are among the 256
-short : (c : tie.Else2) → let r = tested c.before.before.before.before in r.dimension * r.n ≤ 256
+short : (c : tie.Else-settings_refusal-ne0) → let r = tested c.before.before.before.before in r.dimension * r.n ≤ 256
 short c = used-fit _ _ _ _ (settled c) (low c)
 
 -- the part that is lent is what the receiver uses
-part : (c : tie.Else2) → let r = tested c.before.before.before.before in length (used r) ≡ r.dimension * r.n
+part : (c : tie.Else-settings_refusal-ne0) → let r = tested c.before.before.before.before in length (used r) ≡ r.dimension * r.n
 part c =
     let s = c.before.before.before.before in
     length-take-le (s.args.dimension * s.args.n) s.args.entries.now (omega (arith, short c, s.requires))
 
-narrow : (c : tie.Else2) → (tested c.before.before.before.before).n ≤ 16
+narrow : (c : tie.Else-settings_refusal-ne0) → (tested c.before.before.before.before).n ≤ 16
 narrow c = (accepted _ _ _ (settled c)).narrow
 
-wide : (c : tie.Else2) → 2 * (tested c.before.before.before.before).n ≤ 32
+wide : (c : tie.Else-settings_refusal-ne0) → 2 * (tested c.before.before.before.before).n ≤ 32
 wide c = omega (arith, narrow c)
 
 -- the walk over what the receiver uses, after the tests of the settings and the dimension
-abbrev begun : tie.After-rows → tie.Else2
-begun c = c.before.before
+abbrev begun : tie.After-rows-walked → tie.Else-settings_refusal-ne0
+begun c = c.before
 
 -- what it tells of the entries
 entries-told : (c : tie.After-oversized) → let r = tested (begun c.before).before.before.before.before in
@@ -66,79 +65,79 @@ entries-told c =
     let b = begun c.before in
     let r = tested b.before.before.before.before in
     whole-entries 32 r.q r.n r.dimension (used r) (wide b) (part b)
-    ∙ sym (ap not (c.oversized.ensures ∙ ap (oversized r.q) c.before.rows.ensures))
+    ∙ sym (ap not (c.oversized.ensures ∙ ap (oversized r.q) c.before.rows-walked.ensures))
 
-entries_fit : (c : tie.Else3) → let r = tested (begun c.before.before).before.before.before.before in
+entries_fit : (c : tie.Else-oversized) → let r = tested (begun c.before.before).before.before.before.before in
     entries_below r.q (used r) ≡ true
-entries_fit c = entries-told c.before ∙ ap not c.if3.false
+entries_fit c = entries-told c.before ∙ ap not c.if-oversized.false
 
 -- the part that is lent then is the rest
-rest-told : (c : tie.After-entries-below) →
+rest-told : (c : tie.After-entries_below) →
     c.entries_below.result ≡ entries_below 1 (unused (tested (begun c.before.before.before.before).before.before.before.before))
 rest-told c =
     let r = tested (begun c.before.before.before.before).before.before.before.before in
     c.entries_below.ensures
     ∙ ap (entries_below 1) (take_all (length r.entries - r.dimension * r.n) (unused r) (simp length-drop (omega arith)))
 
-returns : tie.Need-returns
-returns c pack = let e = formed-dimension (packed c.before.before pack) c.if1.true in (e, tells _ _ e)
+returns : tie.Need-returns-then-n-dimension
+returns c pack = let e = formed-dimension (packed c.before.before pack) c.if-n-dimension.true in (e, tells _ _ e)
 
-settings-refusal-requires : tie.Need-settings-refusal-requires
+settings-refusal-requires : tie.Need-settings_refusal-requires
 settings-refusal-requires c κs = search rules
 
-returns-2 : tie.Need-returns-2
+returns-2 : tie.Need-returns-then-settings_refusal-ne0
 returns-2 c pack =
     let r = packed c.before.before.before.before pack in
-    let e = formed-settings r (λ z. c.if2.true (c.before.settings-refusal.ensures ∙ z)) in
+    let e = formed-settings r (λ z. c.if-settings_refusal-ne0.true (c.before.settings_refusal.ensures ∙ z)) in
     (e, tells r _ e)
 
-mul-size : tie.Need-overflow-mul-size
+mul-size : tie.Need-overflow_mul-size
 mul-size c = omega (arith, short c)
 
-slice-aggregate-rows : tie.Need-slice-aggregate-rows
-slice-aggregate-rows c = sym (part c.before)
+slice-aggregate-rows : tie.Need-slice_bounds-rows-end
+slice-aggregate-rows c = sym (part c)
 
-rows-requires : tie.Need-rows-requires
-rows-requires c κs = (narrow c.before, omega (arith, part c.before))
+rows-requires : tie.Need-rows-walked-requires
+rows-requires c κs = (narrow c, omega (arith, part c))
 
 oversized-requires : tie.Need-oversized-requires
 oversized-requires c κs = search rules
 
-returns-3 : tie.Need-returns-3
+returns-3 : tie.Need-returns-then-oversized
 returns-3 c pack =
     let b = begun c.before.before in
     let r = packed b.before.before.before.before pack in
-    let e = formed-entries r (settled b) (low b) (entries-told c.before ∙ ap not c.if3.true) in
+    let e = formed-entries r (settled b) (low b) (entries-told c.before ∙ ap not c.if-oversized.true) in
     (e, tells r _ e)
 
-sub-entries-below : tie.Need-overflow-sub-entries-below
+sub-entries-below : tie.Need-slice_bounds-entries_below-count
 sub-entries-below c = omega (arith, short (begun c.before.before))
 
-part-entries-below-start : tie.Need-slice-bounds-entries-below-start
+part-entries-below-start : tie.Need-slice_bounds-entries_below-start
 part-entries-below-start c = omega (arith, short (begun c.before.before))
 
-part-entries-below-end : tie.Need-slice-bounds-entries-below-end
+part-entries-below-end : tie.Need-slice_bounds-entries_below-end
 part-entries-below-end c = omega (arith, short (begun c.before.before), (begun c.before.before).before.before.before.before.requires)
 
-entries-below-requires : tie.Need-entries-below-requires
+entries-below-requires : tie.Need-entries_below-requires
 entries-below-requires c κs = search rules
 
-returns-4 : tie.Need-returns-4
+returns-4 : tie.Need-returns-then-not-entries_below
 returns-4 c pack =
     let e = c.before.before.before in
     let b = begun e.before.before in
     let r = packed b.before.before.before.before pack in
-    let z = sym (rest-told c.before) ∙ not-true _ c.if4.true in
+    let z = sym (rest-told c.before) ∙ c.if-not-entries_below.true in
     let f = formed-rest r (settled b) (low b) (entries_fit e) z in
     (f, tells r _ f)
 
-returns-5 : tie.Need-returns-5
+returns-5 : tie.Need-returns
 returns-5 c pack =
     let e = c.before.before.before in
     let b = begun e.before.before in
     let r = packed b.before.before.before.before pack in
-    let walk = e.before.before.rows.ensures in
-    let z = sym (rest-told c.before) ∙ not-false _ c.if4.false in
+    let walk = e.before.before.rows-walked.ensures in
+    let z = sym (rest-told c.before) ∙ c.if-not-entries_below.false in
     let f = formed-reduced r (settled b) (low b) (entries_fit e) z in (
       ap (λ w. w.reduced) walk
           ∙ whole-rows 32 r.q r.n r.dimension (used r) (wide b) (part b) (entries_fit e)
@@ -148,8 +147,8 @@ returns-5 c pack =
           ∙ tells r _ f,
     )
 
-pub well-formed-spec : {M : Type 1} → statement M
-well-formed-spec =
+pub well_formed_spec : {M : Type 1} → statement M
+well_formed_spec =
     tie.close
     (tie.spec
     returns

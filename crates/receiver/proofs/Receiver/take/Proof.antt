@@ -15,44 +15,44 @@ use Rattle.receiver.proofs.Receiver.take.Tie as tie
 whole : (c : tie.Start) → length c.args.self.entries ≡ 256
 whole c = search rules
 
-unrefused : (c : tie.Else1) → let a = c.before.before.before.before.args in take_refusal a.self (offer a.pack a.row.now) ≡ 0
-unrefused c = sym c.before.before.take-refusal.ensures.0 ∙ c.if1.false
+unrefused : (c : tie.Else-tested-ne0) → let a = c.before.before.before.before.args in take_refusal a.self (offer a.pack a.row.now) ≡ 0
+unrefused c = sym c.before.before.take_refusal-tested.ensures.0 ∙ c.if-tested-ne0.false
 
 -- what was found of the row
-zero : (c : tie.Else1) → c.before.before.take-refusal.result.zero ≡ is_zero c.before.before.before.before.args.row.now
-zero c = c.before.before.take-refusal.ensures.2 c.if1.false
+zero : (c : tie.Else-tested-ne0) → c.before.before.take_refusal-tested.result.zero ≡ is_zero c.before.before.before.before.args.row.now
+zero c = c.before.before.take_refusal-tested.ensures.2 c.if-tested-ne0.false
 
-take-refusal-requires : tie.Need-take-refusal-requires
+take-refusal-requires : tie.Need-take_refusal-tested-requires
 take-refusal-requires c κs = search rules
 
-returns : tie.Need-returns
+returns : tie.Need-returns-then-tested-ne0
 unfolding take_of
 returns c =
-    let told = c.before.before.take-refusal.ensures.0 in
+    let told = c.before.before.take_refusal-tested.ensures.0 in
     let s = c.before.before.before.before in
     let e =
-    ◌∙◌ {A = Taken} (ap (λ x. taken_as s.args.self (Refused x)) told) (kept _ _ _ (λ z. c.if1.true (told ∙ z)))
+    ◌∙◌ {A = Taken} (ap (λ x. taken_as s.args.self (Refused x)) told) (kept _ _ _ (λ z. c.if-tested-ne0.true (told ∙ z)))
     in
     (e, take-told _ _ (whole s) _ e)
 
-returns-2 : tie.Need-returns-2
+returns-2 : tie.Need-returns-then-tested
 unfolding take_of
 returns-2 c =
     let s = c.before.before.before.before.before in
     let z = unrefused c.before in
-    let e = zero-idle _ _ (whole s) z (sym (zero c.before) ∙ c.if2.true) ∙ done _ _ _ z in
+    let e = zero-idle _ _ (whole s) z (sym (zero c.before) ∙ c.if-tested.true) ∙ done _ _ _ z in
     (e, take-told _ _ (whole s) _ e)
 
-taken-in-requires : tie.Need-taken-in-requires
+taken-in-requires : tie.Need-taken_in-requires
 taken-in-requires c κs =
     let granted = take-accepted _ _ (unrefused c.before) in
     let t = c.before.before.before in
     let r = t.before.before.args.self in
     let known = ap (λ x. pick x (identifying r.n r.dimension (used r)) 0) granted.formed in
     let own = subst (λ pack. TakeAccepted r (offer pack t.before.before.args.row.now)) granted.own granted in
-    (own, sym (zero c.before) ∙ c.if2.false, t.take-refusal.ensures.1 ∙ known)
+    (own, sym (zero c.before) ∙ c.if-tested.false, t.take_refusal-tested.ensures.1 ∙ known)
 
-returns-3 : tie.Need-returns-3
+returns-3 : tie.Need-returns
 unfolding take_of taken_in
 returns-3 c =
     let e = c.taken_in.ensures ∙ done _ _ _ (unrefused c.before.before) in
