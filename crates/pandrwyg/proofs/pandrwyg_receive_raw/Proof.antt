@@ -13,24 +13,24 @@ use borrow.Author.Rules.{rules}
 use Rattle.pandrwyg.proofs.pandrwyg_receive_raw.Statement.{statement}
 use Rattle.pandrwyg.proofs.pandrwyg_receive_raw.Tie as tie
 
-unrefused : (c : tie.Else1) →
+unrefused : (c : tie.Else-refusal-ne0) →
     let a = c.before.before.before.before.args in
     exported_refusal a.q a.n a.k a.t a.row_count a.rows.now (length a.answer.now) ≡ 0
-unrefused c = sym c.before.exported-refusal.ensures ∙ c.if1.false
+unrefused c = sym c.before.exported_refusal-refusal.ensures ∙ c.if-refusal-ne0.false
 
-exported-refusal-requires : tie.Need-exported-refusal-requires
+exported-refusal-requires : tie.Need-exported_refusal-refusal-requires
 exported-refusal-requires c κs = search rules
 
-returns : tie.Need-returns
+returns : tie.Need-returns-then-refusal-ne0
 unfolding exported_of exported_bytes exported_number
 returns c =
     let a = c.before.before.before.before.args in
-    let e = c.before.exported-refusal.ensures in
+    let e = c.before.exported_refusal-refusal.ensures in
     let refusal = exported_refusal a.q a.n a.k a.t a.row_count a.rows.now (length a.answer.now) in
-    let r = kept refusal _ (Refused refusal) (λ z. c.if1.true (e ∙ z)) in
-    (e ∙ ap received_number r, (ap (left_bytes a.answer.now) r, e ∙ sym (first-refused _ _ (λ z. c.if1.true (e ∙ z)))))
+    let r = kept refusal _ (Refused refusal) (λ z. c.if-refusal-ne0.true (e ∙ z)) in
+    (e ∙ ap received_number r, (ap (left_bytes a.answer.now) r, e ∙ sym (first-refused _ _ (λ z. c.if-refusal-ne0.true (e ∙ z)))))
 
-reduced-answer-requires : tie.Need-reduced-answer-requires
+reduced-answer-requires : tie.Need-reduced_answer-requires
 reduced-answer-requires c κs =
     let a = exported-accepted _ _ _ _ _ _ _ (unrefused c) in (a.rows.choice, a.rows.few, a.rows.sized, a.below)
 
@@ -39,7 +39,7 @@ leave-requires c κs =
     let x = c.before.before.before.before.before.before.args in
     let a = exported-accepted _ _ _ _ _ _ _ (unrefused c.before.before) in
     let s = a.rows.choice.settings in
-    let d = ap received_dimension c.before.reduced-answer.ensures ∙ space-dimension x.q x.n x.k x.t _ _ in (
+    let d = ap received_dimension c.before.reduced_answer.ensures ∙ space-dimension x.q x.n x.k x.t _ _ in (
       a.room,
       omega (
         arith,
@@ -48,16 +48,16 @@ leave-requires c κs =
       ),
     )
 
-same_length : tie.Need-same-length
+same_length : tie.Need-shape_of-answer
 same_length c = search rules
 
-returns-2 : tie.Need-returns-2
+returns-2 : tie.Need-returns
 unfolding exported_of exported_bytes exported_number
 returns-2 c =
     let l = c.before.before in
     let b = l.before.before in
     let a = b.before.before.before.before.before.args in
-    let r = b.reduced-answer.ensures ∙ done _ _ _ (unrefused b.before) in
+    let r = b.reduced_answer.ensures ∙ done _ _ _ (unrefused b.before) in
     let number = l.leave.ensures.0 ∙ ap received_number r in (
       number,
       (
@@ -66,8 +66,8 @@ returns-2 c =
       ),
     )
 
-pub pandrwyg-receive-raw-spec : {M : Type 1} → statement M
-pandrwyg-receive-raw-spec =
+pub pandrwyg_receive_raw_spec : {M : Type 1} → statement M
+pandrwyg_receive_raw_spec =
     tie.close
     (tie.spec
     exported-refusal-requires

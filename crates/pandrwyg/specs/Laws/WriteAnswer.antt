@@ -8,6 +8,7 @@ use Rattle.std.proofs.Math.Seq.{take-length}
 use Rattle.pandrwyg.specs.Exported.{answer_size, bytes_of, answer_bytes}
 
 take-set : (l : List ℕ) (i v : ℕ) → i < length l → take (suc i) (set l i v) ≡ take i l ++ (v ∷ [])
+take-set [] i v h = elim h [ ]
 take-set (x ∷ l) zero v h = refl
 take-set (x ∷ l) (suc i) v h = ap (λ t. x ∷ t) (take-set l i v (omega arith))
 
