@@ -26,54 +26,53 @@ module _ (b : tie.Start) where
   whole-b = search rules
 
   small : b.args.a.n ≤ 16
-  small = narrow _ _ whole-a whole-b b.pre.0 b.pre.1 b.pre.2
+  small = narrow _ _ whole-a whole-b b.requires.0 b.requires.1 b.requires.2
 
   square : (b.args.a.n + b.args.a.n) * (b.args.a.n + b.args.a.n) ≤ 1024
-  square = double-square _ _ whole-a whole-b b.pre.0 b.pre.1 b.pre.2
+  square = double-square _ _ whole-a whole-b b.requires.0 b.requires.1 b.requires.2
 
   fits : (b.args.a.dimension + b.args.b.dimension) * (b.args.a.n + b.args.a.n) ≤ 1024
-  fits = stack-fits _ _ whole-a whole-b b.pre.0 b.pre.1 b.pre.2
+  fits = stack-fits _ _ whole-a whole-b b.requires.0 b.requires.1 b.requires.2
 
-add-double : tie.Need-overflow-add-double
+add-double : tie.Need-overflow_add-double
 add-double c = omega (arith, small c.before)
 
-add-count : tie.Need-overflow-add-count
+add-count : tie.Need-overflow_add-count
 add-count c =
     let b = c.before.before.before in
     omega (arith, count_low _ _ (whole-a b) (whole-b b) b.requires.0 b.requires.1 b.requires.2)
 
-stacked-requires : tie.Need-stacked-requires
-stacked-requires c κs = let p = c.before.before.before.requires in (p.0, p.1, p.2)
+stacked-requires : tie.Need-stacked-rows-requires
+stacked-requires c κs = let p = c.requires in (p.0, p.1, p.2)
 
-mul-rows : tie.Need-overflow-mul-rows
+mul-rows : tie.Need-overflow_mul-rows
 mul-rows c = omega (arith, fits c.before.before.before.before)
 
-array-share-prefix-rows : tie.Need-array-share-prefix-rows
+array-share-prefix-rows : tie.Need-slice_bounds-rows-end
 array-share-prefix-rows c =
     let b = c.before.before.before.before in
-    omega (arith, fits b, stack-size _ _ (whole-a b) (whole-b b) b.requires.0 b.requires.1 b.requires.2 _ c.stacked.ensures)
+    omega (arith, fits b, stack-size _ _ (whole-a b) (whole-b b) b.requires.0 b.requires.1 b.requires.2 _ c.stacked-rows.ensures)
 
-slice-aggregate-insert-rows : tie.Need-slice-aggregate-insert-rows
+slice-aggregate-insert-rows : tie.Need-slice_bounds-insert_rows-end
 slice-aggregate-insert-rows c =
     let b = c.before.before.before.before.before in
-    sym (stack-length _ _ (whole-a b) (whole-b b) b.requires.0 b.requires.1 b.requires.2 _ c.before.stacked.ensures)
+    sym (stack-length _ _ (whole-a b) (whole-b b) b.requires.0 b.requires.1 b.requires.2 _ c.stacked-rows.ensures)
 
-mul-matrix : tie.Need-overflow-mul-matrix
+mul-matrix : tie.Need-overflow_mul-matrix
 mul-matrix c = omega (arith, square c.before.before.before.before.before)
 
-array-borrow-prefix-matrix : tie.Need-array-borrow-prefix-matrix
+array-borrow-prefix-matrix : tie.Need-slice_bounds-matrix-end
 array-borrow-prefix-matrix c = square c.before.before.before.before.before
 
-slice-aggregate-insert-rows-2 : tie.Need-slice-aggregate-insert-rows-2
+slice-aggregate-insert-rows-2 : tie.Need-slice_bounds-insert_rows-end-2
 slice-aggregate-insert-rows-2 c = sym (zeros-lent _ 1024 (square c.before.before.before.before.before.before))
 
-slice-aggregate-insert-rows-3 : tie.Need-slice-aggregate-insert-rows-3
+slice-aggregate-insert-rows-3 : tie.Need-slice_bounds-insert_rows-end-3
 slice-aggregate-insert-rows-3 c = search rules
 
-insert-rows-requires : tie.Need-insert-rows-requires
+insert-rows-requires : tie.Need-insert_rows-d-requires
 insert-rows-requires c κs =
-    let s = c.before.before.before in
-    let b = s.before.before.before.before in
+    let b = c.before.before.before.before.before.before.before in
     let p = b.requires in
     let low = double-low _ _ (whole-a b) (whole-b b) p.0 p.1 p.2 in
     let asks =
@@ -82,85 +81,84 @@ insert-rows-requires c κs =
       (
         (low, asks.2, omega (arith, low)),
         (
-          stack-length _ _ (whole-a b) (whole-b b) p.0 p.1 p.2 _ s.stacked.ensures,
-          stack-below _ _ (whole-a b) (whole-b b) p.0 p.1 p.2 _ s.stacked.ensures,
+          stack-length _ _ (whole-a b) (whole-b b) p.0 p.1 p.2 _ c.stacked-rows.ensures,
+          stack-below _ _ (whole-a b) (whole-b b) p.0 p.1 p.2 _ c.stacked-rows.ensures,
         ),
       ),
     )
 
 -- what the reduction leaves: the array that the rows were reduced in, and their leads
-module _ (c : tie.After-insert-rows) where
-  abbrev stack : tie.After-stacked
+module _ (c : tie.After-insert_rows-d) where
+  abbrev stack : tie.After-stacked-rows
   stack = c.before.before.before.before
 
   abbrev start : tie.Start
   start = stack.before.before.before.before
 
   abbrev filled : List ℕ
-  filled = c.insert-rows.new.1.1.1.1.1.0
+  filled = c.insert_rows-d.new.m
 
   abbrev array : List ℕ
   array = let n = start.args.a.n in filled ++ drop ((n + n) * (n + n)) (replicate 1024 0)
 
   abbrev left : List (List ℕ)
-  left = let n = start.args.a.n in rows_of (n + n) c.insert-rows.result array
+  left = let n = start.args.a.n in rows_of (n + n) c.insert_rows-d.result array
 
   array_size : length array ≡ 1024
   array_size =
-      zeros-behind _ 1024 (square start) filled (c.insert-rows.auto.1.1.1.1.1.0 ∙ zeros-lent _ 1024 (square start))
+      zeros-behind _ 1024 (square start) filled (c.insert_rows-d.auto.m ∙ zeros-lent _ 1024 (square start))
 
-  few : c.insert-rows.result ≤ start.args.a.n + start.args.a.n
+  few : c.insert_rows-d.result ≤ start.args.a.n + start.args.a.n
   few =
-      let p = start.pre in
-      found-few _ _ (whole-a start) (whole-b start) p.0 p.1 p.2 _ stack.stacked.ensures _ _ _ _ c.insert-rows.ensures
+      let p = start.requires in
+      found-few _ _ (whole-a start) (whole-b start) p.0 p.1 p.2 _ stack.stacked-rows.ensures _ _ _ _ c.insert_rows-d.ensures
 
-  rows_fit : c.insert-rows.result * (start.args.a.n + start.args.a.n) ≤ 1024
+  rows_fit : c.insert_rows-d.result * (start.args.a.n + start.args.a.n) ≤ 1024
   rows_fit =
-      let p = start.pre in
-      found-fits _ _ (whole-a start) (whole-b start) p.0 p.1 p.2 _ stack.stacked.ensures _ _ _ _ c.insert-rows.ensures
+      let p = start.requires in
+      found-fits _ _ (whole-a start) (whole-b start) p.0 p.1 p.2 _ stack.stacked-rows.ensures _ _ _ _ c.insert_rows-d.ensures
 
-  known : take c.insert-rows.result c.insert-rows.new.1.1.1.1.1.1.0 ≡ leads (start.args.a.n + start.args.a.n) left
+  known : take c.insert_rows-d.result c.insert_rows-d.new.pivots ≡ leads (start.args.a.n + start.args.a.n) left
   known =
-      let p = start.pre in
-      found-leads _ _ (whole-a start) (whole-b start) p.0 p.1 p.2 _ stack.stacked.ensures _ _ _ _ c.insert-rows.ensures _
+      let p = start.requires in
+      found-leads _ _ (whole-a start) (whole-b start) p.0 p.1 p.2 _ stack.stacked-rows.ensures _ _ _ _ c.insert_rows-d.ensures _
 
   common-few : length (right_halves start.args.a.n left) ≤ start.args.a.n
   common-few =
-      let p = start.pre in
-      halves-few _ _ (whole-a start) (whole-b start) p.0 p.1 p.2 _ stack.stacked.ensures _ _ _ _ c.insert-rows.ensures _
+      let p = start.requires in
+      halves-few _ _ (whole-a start) (whole-b start) p.0 p.1 p.2 _ stack.stacked-rows.ensures _ _ _ _ c.insert_rows-d.ensures _
 
-slice-aggregate-right-halves : tie.Need-slice-aggregate-right-halves
+slice-aggregate-right-halves : tie.Need-slice_bounds-right_halves-end
 slice-aggregate-right-halves c = sym (array_size c.before.before.before)
 
-slice-aggregate-right-halves-2 : tie.Need-slice-aggregate-right-halves-2
+slice-aggregate-right-halves-2 : tie.Need-slice_bounds-right_halves-end-2
 slice-aggregate-right-halves-2 c = search rules
 
-right-halves-requires : tie.Need-right-halves-requires
+right-halves-requires : tie.Need-right_halves-requires
 right-halves-requires c κs =
     let r = c.before.before.before.before.before in
     let b = start r in (
       (
         omega (arith, rows_fit r, array_size r),
-        omega (arith, few r, small b, r.insert-rows.auto.1.1.1.1.1.1.0),
-        b.pre.3,
+        omega (arith, few r, small b, r.insert_rows-d.auto.pivots),
+        b.requires.3,
         small b,
       ),
       (known r, common-few r),
     )
 
-same_length : tie.Need-same-length
+same_length : tie.Need-shape_of-out
 same_length c = search rules
 
 returns : tie.Need-returns
 returns c =
-    let h = c.before.before in
-    let r = h.before.before.before.before.before.before in
+    let r = c.before.before.before.before.before.before.before.before in
     let b = start r in
-    halves-told _ _ (whole-a b) (whole-b b) b.pre.0 b.pre.1 b.pre.2 _ (stack r).stacked.ensures _ _ _ _
-    r.insert-rows.ensures _ _ _ h.right-halves.ensures
+    halves-told _ _ (whole-a b) (whole-b b) b.requires.0 b.requires.1 b.requires.2 _ (stack r).stacked-rows.ensures _ _ _ _
+    r.insert_rows-d.ensures _ _ _ c.right_halves.ensures
 
-pub common-rows-spec : {M : Type 1} → statement M
-common-rows-spec =
+pub common_rows_spec : {M : Type 1} → statement M
+common_rows_spec =
     tie.close
     (tie.spec
     add-double

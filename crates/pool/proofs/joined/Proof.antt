@@ -31,57 +31,57 @@ module _ (s : tie.Start) where
   whole-b = search rules
 
   small : s.args.a.n ≤ 16
-  small = narrow _ _ whole-a whole-b s.pre.0 s.pre.1 s.pre.2
+  small = narrow _ _ whole-a whole-b s.requires.0 s.requires.1 s.requires.2
 
   square : s.args.a.n * s.args.a.n ≤ 256
-  square = square-fits _ _ whole-a whole-b s.pre.0 s.pre.1 s.pre.2
+  square = square-fits _ _ whole-a whole-b s.requires.0 s.requires.1 s.requires.2
 
   fits-a : s.args.a.dimension * s.args.a.n ≤ 256
-  fits-a = first_fits _ _ whole-a whole-b s.pre.0 s.pre.1 s.pre.2
+  fits-a = first_fits _ _ whole-a whole-b s.requires.0 s.requires.1 s.requires.2
 
   fits-b : s.args.b.dimension * s.args.a.n ≤ 256
-  fits-b = second_fits _ _ whole-a whole-b s.pre.0 s.pre.1 s.pre.2
+  fits-b = second_fits _ _ whole-a whole-b s.requires.0 s.requires.1 s.requires.2
 
   size : T (is_field_size s.args.a.q)
-  size = field-size _ _ whole-a whole-b s.pre.0 s.pre.1 s.pre.2
+  size = field-size _ _ whole-a whole-b s.requires.0 s.requires.1 s.requires.2
 
   sized_a : let a = s.args.a in length (take (a.dimension * a.n) a.entries) ≡ a.dimension * a.n
-  sized_a = first-length _ _ whole-a whole-b s.pre.0 s.pre.1 s.pre.2
+  sized_a = first-length _ _ whole-a whole-b s.requires.0 s.requires.1 s.requires.2
 
   sized_b : let n = s.args.a.n in
       let b = s.args.b in
       length (take (b.dimension * n) b.entries) ≡ b.dimension * n
-  sized_b = second-length _ _ whole-a whole-b s.pre.0 s.pre.1 s.pre.2
+  sized_b = second-length _ _ whole-a whole-b s.requires.0 s.requires.1 s.requires.2
 
   front : take (s.args.a.n * s.args.a.n) (zeros 256) ≡ zeros (s.args.a.n * s.args.a.n)
   unfolding zeros
   front = take-replicate {A = ℕ} (s.args.a.n * s.args.a.n) 256 0 square
 
-mul-size : tie.Need-overflow-mul-size
+mul-size : tie.Need-overflow_mul-size
 mul-size c = omega (arith, square c)
 
-mul-a-entries : tie.Need-overflow-mul-a-entries
+mul-a-entries : tie.Need-overflow_mul-a_entries
 mul-a-entries c = omega (arith, fits-a c.before.before)
 
-array-share-prefix-a-entries : tie.Need-array-share-prefix-a-entries
+array-share-prefix-a-entries : tie.Need-slice_bounds-a_entries-end
 array-share-prefix-a-entries c = omega (arith, fits-a c.before.before, whole-a c.before.before)
 
-slice-aggregate-insert-rows : tie.Need-slice-aggregate-insert-rows
+slice-aggregate-insert-rows : tie.Need-slice_bounds-insert_rows-end
 slice-aggregate-insert-rows c = sym (sized_a c.before.before.before)
 
-array-borrow-prefix-entries : tie.Need-array-borrow-prefix-entries
+array-borrow-prefix-entries : tie.Need-slice_bounds-entries-end
 array-borrow-prefix-entries c = square c.before.before.before
 
-slice-aggregate-insert-rows-2 : tie.Need-slice-aggregate-insert-rows-2
+slice-aggregate-insert-rows-2 : tie.Need-slice_bounds-insert_rows-end-2
 unfolding zeros
 slice-aggregate-insert-rows-2 c =
     let s = c.before.before.before.before in
     sym (ap length (front s) ∙ length-replicate (s.args.a.n * s.args.a.n) 0)
 
-slice-aggregate-insert-rows-3 : tie.Need-slice-aggregate-insert-rows-3
+slice-aggregate-insert-rows-3 : tie.Need-slice_bounds-insert_rows-end-3
 slice-aggregate-insert-rows-3 c = search rules
 
-insert-rows-requires : tie.Need-insert-rows-requires
+insert-rows-requires : tie.Need-insert_rows-held-requires
 unfolding zeros
 insert-rows-requires c κs =
     let s = c.before.before.before.before.before in
@@ -95,22 +95,22 @@ insert-rows-requires c κs =
     )
 
 -- what the first call leaves, and the array that is lent again
-module _ (c : tie.After-insert-rows) where
+module _ (c : tie.After-insert_rows-held) where
   abbrev start : tie.Start
   start = c.before.before.before.before.before.before
 
   abbrev filled : List ℕ
-  filled = c.insert-rows.new.1.1.1.1.1.0
+  filled = c.insert_rows-held.new.m
 
   abbrev pivots : List ℕ
-  pivots = c.insert-rows.new.1.1.1.1.1.1.0
+  pivots = c.insert_rows-held.new.pivots
 
   holds : let a = start.args.a in
-      Holds a.q a.n (reduced_rows a.q a.n (held_rows a)) c.insert-rows.result filled pivots
+      Holds a.q a.n (reduced_rows a.q a.n (held_rows a)) c.insert_rows-held.result filled pivots
   holds =
       let s = start in
-      let told = c.insert-rows.ensures in
-      first_taken _ _ (whole-a s) (whole-b s) s.pre.0 s.pre.1 s.pre.2 _ _ _ _ told.0 told.1.0 told.1.1
+      let told = c.insert_rows-held.ensures in
+      first_taken _ _ (whole-a s) (whole-b s) s.requires.0 s.requires.1 s.requires.2 _ _ _ _ told.0 told.1.0 told.1.1
 
   rest : List ℕ
   rest = drop (start.args.a.n * start.args.a.n) (zeros 256)
@@ -119,58 +119,57 @@ module _ (c : tie.After-insert-rows) where
   unfolding rest zeros
   rest-zeros = drop-replicate (start.args.a.n * start.args.a.n) 256 0
 
-mul-b-entries : tie.Need-overflow-mul-b-entries
+mul-b-entries : tie.Need-overflow_mul-b_entries
 mul-b-entries c = omega (arith, fits-b (start c.before.before))
 
-array-share-prefix-b-entries : tie.Need-array-share-prefix-b-entries
+array-share-prefix-b-entries : tie.Need-slice_bounds-b_entries-end
 array-share-prefix-b-entries c = let s = start c.before.before in omega (arith, fits-b s, whole-b s)
 
-slice-aggregate-insert-rows-4 : tie.Need-slice-aggregate-insert-rows-4
+slice-aggregate-insert-rows-4 : tie.Need-slice_bounds-insert_rows-end-4
 slice-aggregate-insert-rows-4 c = sym (sized_b (start c.before.before.before))
 
-array-borrow-prefix-entries-2 : tie.Need-array-borrow-prefix-entries-2
+array-borrow-prefix-entries-2 : tie.Need-slice_bounds-entries-end-2
 unfolding rest zeros
 array-borrow-prefix-entries-2 c =
     let i = c.before.before.before in
     let s = start i in
-    let long = again-length _ _ (whole-a s) (whole-b s) s.pre.0 s.pre.1 s.pre.2 (holds i) (rest i) (rest-zeros i) in
+    let long = again-length _ _ (whole-a s) (whole-b s) s.requires.0 s.requires.1 s.requires.2 (holds i) (rest i) (rest-zeros i) in
     omega (arith, square s, long)
 
-slice-aggregate-insert-rows-5 : tie.Need-slice-aggregate-insert-rows-5
+slice-aggregate-insert-rows-5 : tie.Need-slice_bounds-insert_rows-end-5
 unfolding rest zeros
 slice-aggregate-insert-rows-5 c =
     let i = c.before.before.before.before in
     let s = start i in
-    sym (again-lent _ _ (whole-a s) (whole-b s) s.pre.0 s.pre.1 s.pre.2 (holds i) (rest i) (rest-zeros i))
+    sym (again-lent _ _ (whole-a s) (whole-b s) s.requires.0 s.requires.1 s.requires.2 (holds i) (rest i) (rest-zeros i))
 
-slice-aggregate-insert-rows-6 : tie.Need-slice-aggregate-insert-rows-6
+slice-aggregate-insert-rows-6 : tie.Need-slice_bounds-insert_rows-end-6
 slice-aggregate-insert-rows-6 c = search rules
 
-insert-rows-requires-2 : tie.Need-insert-rows-requires-2
+insert-rows-requires-2 : tie.Need-insert_rows-dimension-requires
 unfolding rest zeros
 insert-rows-requires-2 c κs =
     let i = c.before.before.before.before.before in
     let s = start i in
-    let asks = again-asks _ _ (whole-a s) (whole-b s) s.pre.0 s.pre.1 s.pre.2 (holds i) (rest i) (rest-zeros i) in (
+    let asks = again-asks _ _ (whole-a s) (whole-b s) s.requires.0 s.requires.1 s.requires.2 (holds i) (rest i) (rest-zeros i) in (
       (size s, asks.0, asks.1),
       (
-        (omega (arith, small s, i.insert-rows.auto.1.1.1.1.1.1.0), asks.2, omega (arith, small s)),
-        (sized_b s, second_below _ _ (whole-a s) (whole-b s) s.pre.0 s.pre.1 s.pre.2),
+        (omega (arith, small s, i.insert_rows-held.auto.pivots), asks.2, omega (arith, small s)),
+        (sized_b s, second_below _ _ (whole-a s) (whole-b s) s.requires.0 s.requires.1 s.requires.2),
       ),
     )
 
 returns : tie.Need-returns
 unfolding rest zeros
 returns c =
-    let j = c.before.before in
-    let i = j.before.before.before.before.before.before in
+    let i = c.before.before.before.before.before.before.before.before in
     let s = start i in
-    let told = j.insert-rows2.ensures in
-    second-taken _ _ (whole-a s) (whole-b s) s.pre.0 s.pre.1 s.pre.2 (holds i) (rest i) (rest-zeros i) _ _ told.0
+    let told = c.insert_rows-dimension.ensures in
+    second-taken _ _ (whole-a s) (whole-b s) s.requires.0 s.requires.1 s.requires.2 (holds i) (rest i) (rest-zeros i) _ _ told.0
     told.1.0
 
-pub joined-spec : {M : Type 1} → statement M
-joined-spec =
+pub joined_spec : {M : Type 1} → statement M
+joined_spec =
     tie.close
     (tie.spec
     mul-size

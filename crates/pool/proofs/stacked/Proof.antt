@@ -25,22 +25,22 @@ module _ (b : tie.Start) where
   whole-b = search rules
 
   small : b.args.a.n ≤ 16
-  small = narrow _ _ whole-a whole-b b.pre.0 b.pre.1 b.pre.2
+  small = narrow _ _ whole-a whole-b b.requires.0 b.requires.1 b.requires.2
 
   low-a : b.args.a.dimension ≤ b.args.a.n
-  low-a = first-low _ _ whole-a whole-b b.pre.0 b.pre.1 b.pre.2
+  low-a = first-low _ _ whole-a whole-b b.requires.0 b.requires.1 b.requires.2
 
   low-b : b.args.b.dimension ≤ b.args.a.n
-  low-b = second-low _ _ whole-a whole-b b.pre.0 b.pre.1 b.pre.2
+  low-b = second-low _ _ whole-a whole-b b.requires.0 b.requires.1 b.requires.2
 
   fits-a : b.args.a.dimension * b.args.a.n ≤ 256
-  fits-a = first_fits _ _ whole-a whole-b b.pre.0 b.pre.1 b.pre.2
+  fits-a = first_fits _ _ whole-a whole-b b.requires.0 b.requires.1 b.requires.2
 
   fits-b : b.args.b.dimension * b.args.a.n ≤ 256
-  fits-b = second_fits _ _ whole-a whole-b b.pre.0 b.pre.1 b.pre.2
+  fits-b = second_fits _ _ whole-a whole-b b.requires.0 b.requires.1 b.requires.2
 
   length-a : length (take (b.args.a.dimension * b.args.a.n) b.args.a.entries) ≡ b.args.a.dimension * b.args.a.n
-  length-a = first-length _ _ whole-a whole-b b.pre.0 b.pre.1 b.pre.2
+  length-a = first-length _ _ whole-a whole-b b.requires.0 b.requires.1 b.requires.2
 
   -- the rows of either receiver, of double width
   double-a : b.args.a.dimension * (b.args.a.n + b.args.a.n) ≤ 512
@@ -63,43 +63,43 @@ module _ (b : tie.Start) where
   unfolding front
   front_length = wide-length true b.args.a.n b.args.a.dimension _ (omega (arith, length-a))
 
-add-middle : tie.Need-overflow-add-middle
+add-middle : tie.Need-overflow_add-middle
 add-middle c = omega (arith, small c.before.before)
 
-mul-middle : tie.Need-overflow-mul-middle
+mul-middle : tie.Need-overflow_mul-middle
 mul-middle c = omega (arith, double-a c.before.before)
 
-mul-a-entries : tie.Need-overflow-mul-a-entries
+mul-a-entries : tie.Need-overflow_mul-a_entries
 mul-a-entries c = omega (arith, fits-a c.before.before)
 
-array-share-prefix-a-entries : tie.Need-array-share-prefix-a-entries
+array-share-prefix-a-entries : tie.Need-slice_bounds-a_entries-end
 array-share-prefix-a-entries c = omega (arith, fits-a c.before.before, whole-a c.before.before)
 
-slice-aggregate-stack : tie.Need-slice-aggregate-stack
+slice-aggregate-stack : tie.Need-slice_bounds-stack-end
 slice-aggregate-stack c = sym (length-a c.before.before.before)
 
-slice-aggregate-stack-2 : tie.Need-slice-aggregate-stack-2
+slice-aggregate-stack-2 : tie.Need-slice_bounds-stack-end-2
 slice-aggregate-stack-2 c = search rules
 
 stack-requires : tie.Need-stack-requires
 stack-requires c κs = let b = c.before.before.before.before in ((length-a b, omega (arith, double-a b)), padded-none 1024)
 
-mul-b-entries : tie.Need-overflow-mul-b-entries
+mul-b-entries : tie.Need-overflow_mul-b_entries
 mul-b-entries c = omega (arith, fits-b c.before.before.before.before.before.before)
 
-array-share-prefix-b-entries : tie.Need-array-share-prefix-b-entries
+array-share-prefix-b-entries : tie.Need-slice_bounds-b_entries-end
 array-share-prefix-b-entries c = let b = c.before.before.before.before.before.before in omega (arith, fits-b b, whole-a b, whole-b b)
 
-slice-aggregate-stack-3 : tie.Need-slice-aggregate-stack-3
+slice-aggregate-stack-3 : tie.Need-slice_bounds-stack-end-3
 slice-aggregate-stack-3 c =
     let b = c.before.before.before.before.before.before.before in
     sym (length-take-le _ _ (omega (arith, fits-b b, whole-a b, whole-b b)))
 
-slice-aggregate-stack-4 : tie.Need-slice-aggregate-stack-4
+slice-aggregate-stack-4 : tie.Need-slice_bounds-stack-end-4
 slice-aggregate-stack-4 c = search rules
 
 -- what the first call leaves
-wrote : (k : tie.After-stack) → k.stack.new.1.1.1.1.0 ≡ padded 1024 (front k.before.before.before.before.before)
+wrote : (k : tie.After-stack) → k.stack.new.out ≡ padded 1024 (front k.before.before.before.before.before)
 unfolding front
 wrote k = k.stack.ensures
 
@@ -107,7 +107,7 @@ stack-requires-2 : tie.Need-stack-requires-2
 unfolding front
 stack-requires-2 c κs =
     let k = c.before.before.before in
-    let b = k.before.before.before.before.before in
+    let b = c.before.before.before.before.before.before.before.before in
     let e = front_length b in
     let fits = double-a b in (
       (
@@ -120,9 +120,8 @@ stack-requires-2 c κs =
 returns : tie.Need-returns
 unfolding front
 returns c =
-    let l = c.before in
-    let k = l.before.before.before.before in
-    let b = k.before.before.before.before.before in
+    let k = c.before.before.before.before.before in
+    let b = c.before.before.before.before.before.before.before.before.before.before in
     let e = front_length b in
     let fits = double-a b in
     let behind =
@@ -130,13 +129,13 @@ returns c =
     (wide_rows false b.args.a.n
     (rows_of b.args.a.n b.args.b.dimension (take (b.args.b.dimension * b.args.a.n) b.args.b.entries)))
     in
-    l.stack2.ensures
+    c.stack-2.ensures
     ∙ ap₂ (λ (x : ℕ) (y : List ℕ). padded x (y ++ behind)) (padded-size 1024 _ (front b) _ (wrote k) e (omega (arith, fits)))
     (padded-taken 1024 _ (front b) _ (wrote k) e (omega (arith, fits)))
     ∙ ap (padded 1024) (stack-joined _ _ (whole-a b) (whole-b b) b.requires.0 b.requires.1 b.requires.2)
 
-pub stacked-spec : {M : Type 1} → statement M
-stacked-spec =
+pub stacked_spec : {M : Type 1} → statement M
+stacked_spec =
     tie.close
     (tie.spec
     add-middle

@@ -4,7 +4,7 @@
 --   again-asks    == what taking in the second receiver's rows asks of these
 --   second-taken  == after these the receiver holds the rows of both
 -- Assumes nothing.
-use Rattle.std.specs.Prelude.{◌≡◌, true, ℕ, ◌+◌, ◌*◌, ◌-◌, ◌≤◌, take, drop, replicate}
+use Rattle.std.specs.Prelude.{◌≡◌, true, ℕ, ◌*◌, ◌-◌, ◌≤◌, take, drop, replicate}
 use Rattle.std.proofs.Math.Path.{ap, ap₂, sym}
 use Rattle.std.proofs.Common.{◌∙◌, subst, mul-le-mul_right, arith, length-append, take_at, drop_at}
 use mathlib.Core.List.{List, [], ◌++◌}

@@ -6,7 +6,7 @@
 --   stack-joined    == the stack that is made of them
 --   joint-length, joint-part, joint-pasted == the pooled receiver's entries, and those pasted into the joint buffer
 -- Assumes nothing.
-use Rattle.std.specs.Prelude.{◌≡◌, ℕ, ◌+◌, ◌*◌, ◌≤◌, ◌<◌, T, get_or}
+use Rattle.std.specs.Prelude.{◌≡◌, ℕ, ◌*◌, ◌≤◌, ◌<◌, T, get_or}
 use Rattle.std.proofs.Math.Path.{ap, ap₂, sym}
 use Rattle.std.proofs.Common.{◌∙◌, subst, mul-le-mul_right, arith, length-take-le}
 use Rattle.std.proofs.Math.Bool.{true, false}
