@@ -14,16 +14,16 @@ use borrow.Author.Rules.{rules}
 use Rattle.listing.proofs.write.write_word.Statement.{statement}
 use Rattle.listing.proofs.write.write_word.Tie as tie
 
-slice-relend-prefix-put-word : tie.Need-slice-relend-prefix-put-word
+slice-relend-prefix-put-word : tie.Need-slice_bounds-put_word-end
 slice-relend-prefix-put-word c = search rules
 
-slice-aggregate-put-word : tie.Need-slice-aggregate-put-word
+slice-aggregate-put-word : tie.Need-slice_bounds-put_word-end-2
 slice-aggregate-put-word c = let start = c.before.before in sym (length-take-le line_room start.args.buffer.now start.requires)
 
-put-word-requires : tie.Need-put-word-requires
+put-word-requires : tie.Need-put_word-requires
 put-word-requires c κs = search rules
 
-same_length : tie.Need-same-length
+same_length : tie.Need-shape_of-buffer
 same_length c = search rules
 
 returns : tie.Need-returns
@@ -38,5 +38,5 @@ returns c =
     (omega (arith, room, length-append (letters word) (line_feed ∷ []), min-le_right word.size (length word.bytes)))
     p.put_word.ensures
 
-pub write-word-spec : {M : Type 1} → statement M
-write-word-spec = tie.close (tie.spec slice-relend-prefix-put-word slice-aggregate-put-word put-word-requires same_length returns)
+pub write_word_spec : {M : Type 1} → statement M
+write_word_spec = tie.close (tie.spec slice-relend-prefix-put-word slice-aggregate-put-word put-word-requires same_length returns)
