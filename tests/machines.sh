@@ -10,7 +10,7 @@ cd "$(dirname "$0")/.." || exit 1
 machine=$1
 here=tests/machines
 to=target/tests/machines
-tools=target/kit/on/$(uname -m)/toolchain/own
+tools=target/kit
 strict='-std=c11 -Wall -Wextra -Werror -Iinclude -Itests -Itests/machines'
 # shellcheck source=tests/passes.sh
 . tests/passes.sh
@@ -26,7 +26,7 @@ is_format() {
 
 # No pointer becomes a number, and no number a pointer: then 64-bit lengths do for pointers of any width.
 is_portable() {
-    "$tools/clang" --target=x86_64-unknown-linux-gnu -S -emit-llvm -x ir "$tools/../module.bc" -o "$to/module.ll" &&
+    "$tools/clang" --target=x86_64-unknown-linux-gnu -S -emit-llvm -x ir "$tools/module.bc" -o "$to/module.ll" &&
         grep -q '^define .*@pandrwyg_draw_raw(' "$to/module.ll" && ! grep -E 'ptrtoint|inttoptr|addrspacecast' "$to/module.ll"
 }
 
