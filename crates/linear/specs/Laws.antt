@@ -21,7 +21,6 @@ pub mod Insert
 pub mod InsertMany
 pub mod ReducedOf
 pub mod SameMatrix
-pub mod InSpan
 pub mod OneMore
 pub mod FlatRows
 pub mod NoChange

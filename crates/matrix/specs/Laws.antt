@@ -11,16 +11,10 @@ pub mod Corner
 pub mod Peel
 pub mod ShapeLaws
 pub mod Cell
-pub mod ShapeMatrix
 pub mod PeelPlace
 pub mod Column
 pub mod DrawColumns
-pub mod Values
-pub mod Vector
 pub mod Passed
-pub mod VectorRows
 pub mod Bits
-pub mod Pivots
 pub mod BitSum
 pub mod VectorOnes
-pub mod Walk

@@ -15,7 +15,7 @@ use Rattle.linear.specs.Laws.FlatMatrix.{rows_join, join-length}
 use Rattle.linear.specs.Laws.ReducedRows.{join-below, rows-sized}
 use Rattle.spaces.specs.Spaces.{Within, CommonSpace}
 use Rattle.spaces.specs.Distance.{distance}
-use Rattle.spaces.specs.Laws.Distance.{distance-zero, distance-symmetric, distance-triangle, distance_most}
+use Rattle.spaces.proofs.Laws.Distance.{distance-zero, distance-symmetric, distance-triangle, distance_most}
 use Rattle.reduce.specs.Reduce.{row_list_refusal}
 use Rattle.distance.specs.Distance.{distance_of, distance_number, distance_value}
 use Rattle.distance.specs.Laws.DistanceAccepted.{DistanceAccepted, distance-passed, distance-accepted, distance-told, list-rows}

@@ -7,7 +7,7 @@
 use Rattle.std.specs.Prelude.{◌≡◌, List, ◌∷◌, ◌++◌, ◌≤◌}
 use Rattle.std.proofs.Common.{sym, subst₂, arith}
 use Rattle.spaces.specs.Distance.{distance}
-use Rattle.spaces.specs.Laws.Distance.{distance-symmetric, distance-triangle}
+use Rattle.spaces.proofs.Laws.Distance.{distance-symmetric, distance-triangle}
 use Rattle.distance.specs.Distance.{distance_number, distance_value}
 use Rattle.receiver.specs.Receiver.{Setup, setup_refusal}
 use Rattle.receiver.specs.Laws.Held.{settings-laws}

@@ -20,8 +20,9 @@ use Rattle.linear.specs.Laws.Every.{all_append}
 use Rattle.linear.specs.Laws.SameMatrix.{reduced_rows-again}
 use Rattle.reduction.specs.Padded.{padded}
 use Rattle.spaces.specs.Spaces.{JointSpace, CommonSpace, joint_of, joint_dimension, common_of, common_dimension}
-use Rattle.spaces.specs.Laws.Joint.{joint-space, joint-unique}
-use Rattle.spaces.specs.Laws.Common.{common-space, common-unique}
+use Rattle.spaces.specs.Laws.Joint.{joint-space}
+use Rattle.spaces.specs.Laws.Common.{common-space}
+use Rattle.spaces.proofs.Laws.Unique.{joint-unique, common-unique}
 use Rattle.spaces.specs.Laws.Dimensions.{dimensions-sum}
 use Rattle.receiver.specs.Receiver.{setup_of, held_rows}
 use Rattle.receiver.specs.Laws.Sound.{Sound, sound}

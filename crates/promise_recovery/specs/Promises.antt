@@ -32,8 +32,8 @@ use Rattle.reduce.specs.Laws.ReduceAccepted.{reduce-accepted, reduce-told}
 use Rattle.reduce.specs.Laws.ReduceRows.{input-rows, input-reduced}
 use Rattle.receive.specs.Answer.{space_answer, received_dimension, received_vector}
 use Rattle.receive.specs.Receive.{receive_of}
-use Rattle.receive.specs.Laws.ReceiveAccepted.{receive-accepted, receive-told}
-use Rattle.receive.specs.Laws.Space.{space-many, ones-unless, told-ones}
+use Rattle.receive.proofs.Laws.ReceiveAccepted.{receive-accepted, receive-told}
+use Rattle.receive.proofs.Laws.Space.{space-many, ones-unless, told-ones}
 use Rattle.receiver.specs.Receiver.{setup, used, close_refusal, close_of}
 use Rattle.receiver.specs.Laws.Sound.{sound}
 use Rattle.receiver.specs.Laws.TakeAccepted.{close-accepted, close-told}

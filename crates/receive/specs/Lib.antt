@@ -1,4 +1,3 @@
 -- receive: the call Receive, and the answer for a span, which Close gives too.
 pub mod Answer
 pub mod Receive
-pub mod Laws

@@ -8,5 +8,3 @@ pub mod Common
 pub mod Joint
 pub mod Growing
 pub mod Dimensions
-pub mod Distance
-pub mod DistanceRow

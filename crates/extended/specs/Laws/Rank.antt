@@ -23,7 +23,7 @@ use Rattle.matrix.specs.Laws.BitSum.{bits-low, bits-ones}
 use Rattle.matrix.specs.Laws.Peel.{peeled-of}
 use Rattle.matrix.specs.Laws.ShapeLaws.{top_value-below}
 use Rattle.matrix.specs.Laws.PeelPlace.{Located, located-start}
-use Rattle.matrix.specs.Laws.Walk.{walk-pivot, walk-free, walk_end}
+use Rattle.matrix.proofs.Laws.Walk.{walk-pivot, walk-free, walk_end}
 use Rattle.counts.specs.Gaussian.{gaussian, greatest_count, table_entry}
 use Rattle.counts.specs.Laws.GaussianLaws.{gaussian-longer-le, entry-within}
 use Rattle.settings.specs.Laws.Accepted.{Accepted}

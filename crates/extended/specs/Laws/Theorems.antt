@@ -22,9 +22,9 @@ use Rattle.matrix.specs.Shape.{cell, flatten}
 use Rattle.matrix.specs.Laws.Shape.{Peeled}
 use Rattle.matrix.specs.Laws.Peel.{peeled-of}
 use Rattle.matrix.specs.Laws.ShapeLaws.{peeled-valid}
-use Rattle.matrix.specs.Laws.ShapeMatrix.{shape-matrix, shape-peeled, shape-reduced}
+use Rattle.matrix.proofs.Laws.ShapeMatrix.{shape-matrix, shape-peeled, shape-reduced}
 use Rattle.matrix.specs.Laws.PeelPlace.{located-start}
-use Rattle.matrix.specs.Laws.Values.{column_value-below, columns-injective}
+use Rattle.matrix.proofs.Laws.Values.{column_value-below, columns-injective}
 use Rattle.counts.specs.Gaussian.{gaussian}
 use Rattle.extended.specs.Extended.{extended_index, extended_column, extended_before}
 use Rattle.extended.specs.Drawn.{extended_shape, drawn_extended}

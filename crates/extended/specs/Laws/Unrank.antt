@@ -15,9 +15,9 @@ use Rattle.field.specs.Field.{is_field_size}
 use Rattle.field.specs.Laws.Small.{size_small}
 use Rattle.matrix.specs.Matrix.{identifying}
 use Rattle.matrix.specs.Laws.WriteColumn.{unit_at, Blank, Written}
-use Rattle.matrix.specs.Laws.Vector.{vector}
+use Rattle.matrix.proofs.Laws.Vector.{vector}
 use Rattle.matrix.specs.Laws.Passed.{Passed, passed_start, passed-free, passed-pivot, passed-fits, passed-end}
-use Rattle.matrix.specs.Laws.ShapeMatrix.{shape-vector}
+use Rattle.matrix.proofs.Laws.ShapeMatrix.{shape-vector}
 use Rattle.matrix.specs.Shape.{digit_at}
 use Rattle.matrix.specs.Laws.DrawColumns.{Drawing, drawing-start, drawing-blank, drawing-free, drawing-pivot, drawing-end}
 use Rattle.counts.specs.Gaussian.{gaussian, greatest_count, table_entry}

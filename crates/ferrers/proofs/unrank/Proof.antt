@@ -6,7 +6,7 @@ use native.Mathlib.Omega.{arith}
 use borrow.Author.Rules.{rules}
 use Rattle.field.specs.Laws.Small.{size_small}
 use Rattle.matrix.specs.Matrix.{identifying}
-use Rattle.matrix.specs.Laws.ShapeMatrix.{shape-vector}
+use Rattle.matrix.proofs.Laws.ShapeMatrix.{shape-vector}
 use Rattle.ferrers.specs.Drawn.{diagram_shape}
 use Rattle.ferrers.specs.Laws.FindSize.{found-place, found-drawn}
 use Rattle.ferrers.specs.Laws.WriteMatrix.{Shaped, diagram-shaped}

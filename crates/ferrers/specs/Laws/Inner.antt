@@ -14,7 +14,7 @@ use Rattle.std.proofs.Math.Nat.{sub_self, pow-zero, div-div-eq-div-mul}
 use Rattle.basics.specs.Laws.Digits.{digits-joined}
 use Rattle.matrix.specs.Shape.{Shape, empty, free, pivot, cell}
 use Rattle.matrix.specs.Laws.Shape.{Valid, valid-empty, valid-free, valid-pivot}
-use Rattle.matrix.specs.Laws.Vector.{vector}
+use Rattle.matrix.proofs.Laws.Vector.{vector}
 use Rattle.ferrers.specs.Laws.ShapeRank.{shape_size, shape_tableau}
 
 unfoldable pub rest : Shape → Shape

@@ -13,7 +13,7 @@ use Rattle.matrix.specs.Matrix.{identifying, Reduced}
 use Rattle.matrix.specs.Laws.Peel.{peeled-of}
 use Rattle.matrix.specs.Shape.{Shape, empty}
 use Rattle.matrix.specs.Laws.ShapeLaws.{peeled-valid}
-use Rattle.matrix.specs.Laws.Walk.{walk-pivot, walk-free, walk_end}
+use Rattle.matrix.proofs.Laws.Walk.{walk-pivot, walk-free, walk_end}
 use Rattle.ferrers.specs.Laws.DiagramFormula.{size-formula}
 use Rattle.ferrers.specs.Ferrers.{size}
 use Rattle.ferrers.specs.Laws.ShapeRank.{shape_size}

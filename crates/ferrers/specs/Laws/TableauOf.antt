@@ -21,7 +21,7 @@ use Rattle.matrix.specs.Matrix.{entry, identifying, Reduced}
 use Rattle.matrix.specs.Laws.Peel.{peeled-of}
 use Rattle.matrix.specs.Shape.{Shape, empty}
 use Rattle.matrix.specs.Laws.Shape.{top_value}
-use Rattle.matrix.specs.Laws.Walk.{walk-pivot, walk-free, walk_end}
+use Rattle.matrix.proofs.Laws.Walk.{walk-pivot, walk-free, walk_end}
 use Rattle.ferrers.specs.Ferrers.{tableau_value}
 use Rattle.ferrers.specs.Laws.IndexParts.{parts}
 use Rattle.ferrers.specs.Laws.ShapeRank.{shape_size, shape_tableau}

@@ -22,7 +22,7 @@ use Rattle.matrix.specs.Matrix.{Reduced}
 use Rattle.matrix.specs.Laws.Peel.{peeled-of}
 use Rattle.matrix.specs.Laws.ShapeLaws.{peeled-valid}
 use Rattle.matrix.specs.Shape.{cell, flatten}
-use Rattle.matrix.specs.Laws.ShapeMatrix.{shape-matrix, shape-peeled, shape-reduced}
+use Rattle.matrix.proofs.Laws.ShapeMatrix.{shape-matrix, shape-peeled, shape-reduced}
 use Rattle.ferrers.specs.Laws.BeforeLaws.{diagram-length, same_size, index_same, index-larger, index-fuller, index-smaller}
 use Rattle.ferrers.specs.Laws.BeforeLaws.{before-compared}
 use Rattle.ferrers.specs.Ferrers.{diagram, size, tableau_value, ferrers_index, ferrers_before, larger, fuller, smaller}

@@ -13,7 +13,7 @@ use Rattle.std.specs.Prelude.{◌≡◌, refl, Bool, true, false, ℕ, zero, suc
 use Rattle.std.proofs.Common.{ap, subst, arith, lt-ltb, le-ltb}
 use Rattle.basics.specs.Choice.{pick}
 use Rattle.matrix.specs.Shape.{Shape, free, pivot}
-use Rattle.matrix.specs.Laws.Vector.{vector}
+use Rattle.matrix.proofs.Laws.Vector.{vector}
 use Rattle.matrix.specs.Laws.Passed.{Passed, passed_start, passed-free, passed-pivot, passed-fits, passed-end}
 use Rattle.partitions.specs.Laws.Box.{box-next, free_all}
 use Rattle.ferrers.specs.Laws.DiagramShape.{free-fits}

@@ -27,7 +27,7 @@ use Rattle.matrix.specs.Laws.Flatten.{flatten-same, flatten-entries}
 use Rattle.matrix.specs.Matrix.{entry}
 use Rattle.matrix.specs.Shape.{Shape, empty, free, pivot, digit_at, cell, flatten}
 use Rattle.matrix.specs.Laws.Shape.{Valid, valid-free, valid-pivot}
-use Rattle.matrix.specs.Laws.Vector.{vector}
+use Rattle.matrix.proofs.Laws.Vector.{vector}
 use Rattle.matrix.specs.Laws.WriteColumn.{unit_at, Blank, Written}
 use Rattle.ferrers.specs.Laws.DiagramShape.{diagram-valid}
 use Rattle.ferrers.specs.Laws.VectorAt.{diagram_vector, diagram-vector}

@@ -7,7 +7,7 @@ use native.Mathlib.Omega.{arith}
 use borrow.Author.Rules.{rules}
 use lib.ListN.{length, length-set}
 use Rattle.matrix.specs.Matrix.{identifying, Reduced}
-use Rattle.matrix.specs.Laws.Pivots.{Left, left-start, left_end, Next, left_step}
+use Rattle.matrix.proofs.Laws.Pivots.{Left, left-start, left_end, Next, left_step}
 use Rattle.matrix.proofs.pivot_columns.Statement.{statement}
 use Rattle.matrix.proofs.pivot_columns.Tie as tie
 

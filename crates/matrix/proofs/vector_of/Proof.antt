@@ -2,7 +2,7 @@
 use Prim.Native.Nat.{◌-◌}
 use native.Mathlib.Omega.{arith}
 use lib.ListN.{get_or}
-use Rattle.matrix.specs.Laws.VectorRows.{Adding, adding-start, adding-end, Added, adding-step}
+use Rattle.matrix.proofs.Laws.VectorRows.{Adding, adding-start, adding-end, Added, adding-step}
 use Rattle.matrix.proofs.vector_of.Statement.{statement}
 use Rattle.matrix.proofs.vector_of.Tie as tie
 

@@ -10,7 +10,7 @@ use Rattle.basics.specs.Laws.Choice.{holds}
 use Rattle.matrix.specs.Matrix.{Reduced, is_reduced, identifying, entries_below}
 use Rattle.matrix.specs.Laws.Tests.{reduced-exactly}
 use Rattle.walk.specs.Walk.{oversized}
-use Rattle.walk.specs.Laws.Whole.{whole-entries, whole-rows, whole-vector}
+use Rattle.walk.proofs.Laws.Whole.{whole-entries, whole-rows, whole-vector}
 use Rattle.numbering.specs.Numbering.{choice_refusal}
 use Rattle.numbering.specs.Laws.Chosen.{chosen, accepted-bytes}
 use Rattle.number.specs.Laws.NumberAccepted.{by-choice, by_length, by-entry, by_form, reduced-numbered, number-refused}

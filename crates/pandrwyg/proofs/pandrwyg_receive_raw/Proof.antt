@@ -5,7 +5,7 @@ use lib.ListN.{length}
 use Rattle.refusal.specs.Laws.First.{first-refused, kept, done}
 use Rattle.reduce.specs.Laws.ReduceRows.{input-most}
 use Rattle.receive.specs.Answer.{received_number, received_dimension}
-use Rattle.receive.specs.Laws.Space.{space-dimension}
+use Rattle.receive.proofs.Laws.Space.{space-dimension}
 use Rattle.receive.specs.declared.Received.TheVariants.{Refused}
 use Rattle.pandrwyg.specs.Exported.{left_bytes, exported_refusal, exported_of, exported_number, exported_bytes}
 use Rattle.pandrwyg.specs.Laws.ExportedAccepted.{exported-accepted, exported-told}

@@ -19,8 +19,8 @@ use Rattle.linear.specs.Span.{rows_of}
 use Rattle.linear.specs.Eliminate.{reduced_of, dimension}
 use Rattle.receive.specs.Answer.{Told}
 use Rattle.receive.specs.Receive.{rows_refusal, receive_refusal, reduced_answer, receive_of}
-use Rattle.receive.specs.Laws.ReceiveAccepted.{RowsAccepted, rows-accepted, receive-split}
-use Rattle.receive.specs.Laws.Space.{space-told, refused-told}
+use Rattle.receive.proofs.Laws.ReceiveAccepted.{RowsAccepted, rows-accepted, receive-split}
+use Rattle.receive.proofs.Laws.Space.{space-told, refused-told}
 use Rattle.receive.specs.declared.Received.TheVariants.{Refused}
 use Rattle.pandrwyg.specs.Exported.{answer_size, exported_refusal, exported_of}
 

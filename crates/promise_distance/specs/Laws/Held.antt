@@ -12,7 +12,7 @@ use Rattle.linear.specs.Eliminate.{reduced_rows, reduced_of, dimension}
 use Rattle.linear.specs.Laws.Every.{all_of}
 use Rattle.linear.specs.Laws.ReducedOf.{reduced_rows-kept, reduced_rows-span, reduced_of-reduced, reduced_of-rows, dimension-le}
 use Rattle.spaces.specs.Distance.{distance}
-use Rattle.spaces.specs.Laws.Distance.{distance-symmetric, distance-same}
+use Rattle.spaces.proofs.Laws.Distance.{distance-symmetric, distance-same}
 use Rattle.reduce.specs.Reduce.{row_list_refusal}
 use Rattle.distance.specs.Distance.{distance_of, distance_number, distance_value}
 use Rattle.receiver.specs.Receiver.{Setup, setup_refusal, holding}

@@ -12,7 +12,7 @@ use Rattle.basics.specs.Choice.{pick}
 use Rattle.field.specs.FieldLaws.{Laws}
 use Rattle.linear.specs.Span.{All, Row, SameSpan}
 use Rattle.spaces.specs.Distance.{distance}
-use Rattle.spaces.specs.Laws.Distance.{distance-zero}
+use Rattle.spaces.proofs.Laws.Distance.{distance-zero}
 use Rattle.receiver.specs.Receiver.{Setup, setup_refusal, take_of, take_number, lent_answer}
 use Rattle.receiver.specs.Laws.Held.{settings-laws}
 use Rattle.promise_recovery.specs.Calls.{Call, take_value, take_lent, close, begun, accepted}

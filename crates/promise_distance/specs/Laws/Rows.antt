@@ -8,8 +8,9 @@ use Rattle.field.specs.FieldLaws.{Laws}
 use Rattle.linear.specs.Span.{All, Row, InSpan}
 use Rattle.linear.specs.Laws.Every.{all_head, all_tail, all-parts}
 use Rattle.spaces.specs.Distance.{distance}
-use Rattle.spaces.specs.Laws.Distance.{distance-symmetric}
-use Rattle.spaces.specs.Laws.DistanceRow.{distance-row, distance-replaced}
+use Rattle.spaces.proofs.Laws.Distance.{distance-symmetric}
+use Rattle.spaces.proofs.Laws.DistanceRow.{distance-row}
+use Rattle.spaces.proofs.Laws.DistanceReplaced.{distance-replaced}
 
 module _ (q : ℕ) (laws : Laws q) (n : ℕ) (us vs : List (List ℕ)) (hu : All (Row q n) us) (hv : All (Row q n) vs)
     (ws xs : List (List ℕ)) where

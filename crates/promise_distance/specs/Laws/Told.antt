@@ -11,8 +11,8 @@ use Rattle.linear.specs.Laws.Every.{all_append}
 use Rattle.linear.specs.Laws.ReducedOf.{dimension-has}
 use Rattle.spaces.specs.Spaces.{Within, CommonSpace, joint_dimension}
 use Rattle.spaces.specs.Distance.{distance}
-use Rattle.spaces.specs.Laws.Common.{common-unique}
-use Rattle.spaces.specs.Laws.Distance.{distance-true, distance-within, distance-common}
+use Rattle.spaces.proofs.Laws.Unique.{common-unique}
+use Rattle.spaces.proofs.Laws.Distance.{distance-true, distance-within, distance-common}
 
 module _ (q : ℕ) (laws : Laws q) (n : ℕ) (us vs : List (List ℕ)) (hu : All (Row q n) us) (hv : All (Row q n) vs) where
   first : (d : ℕ) → HasDimension q n us d ↔ (dimension q n us ≡ d)

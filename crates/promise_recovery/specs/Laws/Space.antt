@@ -11,7 +11,7 @@ use Rattle.basics.specs.Laws.Order.{trichotomy}
 use Rattle.field.specs.FieldLaws.{Laws}
 use Rattle.settings.specs.Settings.{settings_refusal}
 use Rattle.matrix.specs.Matrix.{Reduced, identifying}
-use Rattle.matrix.specs.Laws.Vector.{identifying-below}
+use Rattle.matrix.proofs.Laws.Vector.{identifying-below}
 use Rattle.linear.specs.Span.{All, Row, InSpan, rows_of, HasDimension, HasVector}
 use Rattle.linear.specs.Eliminate.{reduced_of, dimension}
 use Rattle.linear.specs.Laws.Every.{all_map}
@@ -23,7 +23,7 @@ use Rattle.numbering.specs.Numbering.{index_of, index_in}
 use Rattle.numbering.specs.Laws.Either.{typed-value}
 use Rattle.reduce.specs.Reduce.{space_of}
 use Rattle.receive.specs.Answer.{space_answer, received_number, received_index}
-use Rattle.receive.specs.Laws.Space.{space-few, space-whole, space-dimension, space-vector}
+use Rattle.receive.proofs.Laws.Space.{space-few, space-whole, space-dimension, space-vector}
 use Rattle.receive.specs.declared.Received.TheVariants.{Done, TooFew}
 use Rattle.receiver.specs.Laws.Held.{settings-laws}
 use Rattle.promise_recovery.specs.Demand.{told, Answers}

@@ -2,7 +2,7 @@
 use mathlib.Core.Path.{◌≡◌, ◌∙◌, ap, sym}
 use Rattle.refusal.specs.Laws.First.{kept, done}
 use Rattle.receive.specs.Receive.{receive_refusal, receive_of}
-use Rattle.receive.specs.Laws.ReceiveAccepted.{receive-accepted, receive-told}
+use Rattle.receive.proofs.Laws.ReceiveAccepted.{receive-accepted, receive-told}
 use Rattle.receive.specs.declared.Received.TheVariants.{Refused}
 use borrow.Author.Rules.{rules}
 use Rattle.receive.proofs.receive.Statement.{statement}

@@ -2,7 +2,7 @@
 use mathlib.Core.Path.{◌≡◌, ◌∙◌, ap, ap₂, subst}
 use native.Mathlib.Omega.{arith}
 use Rattle.matrix.specs.Matrix.{Reduced, identifying}
-use Rattle.receive.specs.Laws.Space.{space-few, space-many, space-whole}
+use Rattle.receive.proofs.Laws.Space.{space-few, space-many, space-whole}
 use Rattle.receive.specs.declared.Received.TheVariants.{Done, TooFew, TooMany}
 use Rattle.receive.proofs.space_answer.Statement.{statement}
 use Rattle.receive.proofs.space_answer.Tie as tie

@@ -10,7 +10,7 @@ use Rattle.basics.specs.Choice.{pick}
 use Rattle.settings.specs.Laws.Accepted.{accepted}
 use Rattle.matrix.specs.Matrix.{entries_below, identifying}
 use Rattle.walk.specs.Walk.{oversized}
-use Rattle.walk.specs.Laws.Whole.{whole-entries, whole-rows, whole-vector}
+use Rattle.walk.proofs.Laws.Whole.{whole-entries, whole-rows, whole-vector}
 use Rattle.receiver.specs.Receiver.{setup, setup_of, setup_refusal, made, used, unused, well_formed}
 use Rattle.receiver.specs.Laws.WellFormed.{formed-settings, formed-dimension, formed-entries, formed-rest, formed-reduced}
 use Rattle.receiver.specs.Laws.Sound.{used-fit}

@@ -25,7 +25,7 @@ use Rattle.linear.specs.Eliminate.{dimension}
 use Rattle.linear.specs.Laws.Every.{all-at, all_of}
 use Rattle.numbering.specs.Numbering.{is_numbering}
 use Rattle.receive.specs.Answer.{Told}
-use Rattle.receive.specs.Laws.Space.{space-told, refused-told}
+use Rattle.receive.proofs.Laws.Space.{space-told, refused-told}
 use Rattle.receive.specs.declared.Received.{Received}
 use Rattle.receiver.specs.Receiver.{Offer, used, well_formed, held_rows, holding, is_zero, take_refusal, taken_in, take_of}
 use Rattle.receiver.specs.Receiver.{close_refusal, close_of, taken_as, take_number, take_raised, take_idle, TakeTells}

@@ -3,7 +3,6 @@
 --   common-both     == v is in their span exactly where it is in that of either list
 --   common-dimension == their dimension is their number
 --   common-space    == the matrix is that of the common space
---   common-unique   == and no other is
 -- Assumes nothing.
 use Rattle.std.specs.Prelude.{◌≡◌, refl, List, ◌++◌, ◌↔◌, ◌⊎◌, replicate}
 use Rattle.std.proofs.Math.Path.{ap, sym}
@@ -26,7 +25,6 @@ use Rattle.linear.specs.Laws.FlatMatrix.{rows_join}
 use Rattle.linear.specs.Laws.ReducedRows.{rows-sized, reduced-echelon, echelon-reduced}
 use Rattle.linear.specs.Laws.InsertMany.{Kept}
 use Rattle.linear.specs.Laws.ReducedOf.{reduced_rows-kept, reduced_rows-span}
-use Rattle.linear.specs.Laws.Unique.{reduced-unique}
 use Rattle.linear.specs.Laws.SameMatrix.{reduced_rows-again}
 use Rattle.spaces.specs.Spaces.{wide_rows, stacked, right_halves, common_rows, common_of, common_dimension, CommonSpace}
 use Rattle.spaces.specs.Laws.Append.{Parted, spanned-part, part-spanned}
@@ -228,9 +226,3 @@ module _ (q : ℕ) (laws : Laws q) (n : ℕ) where
           reduced = common-kept.reduced;
           both = λ v. rw (rows_join n (rows-sized q n common-rows)) (common-both v);
         }
-
-    pub common-unique : (d : ℕ) (m : List ℕ) → CommonSpace q n us vs d m → (d ≡ common_dimension q n us vs) × (m ≡ common_of q n us vs)
-    unfolding SameSpan
-    common-unique d m c =
-        reduced-unique q laws n c.reduced common-space.reduced
-        (λ v. (λ s. (common-space.both v).1 ((c.both v).0 s), λ s. (c.both v).1 ((common-space.both v).0 s)))

@@ -3,9 +3,8 @@
 --   first-within, last_within == the span of either list lies within that of both
 --   both-within     == and that of both within every span that contains them
 --   joint-space     == the matrix is that of the joint space
---   joint-unique    == and no other is
 -- Assumes nothing.
-use Rattle.std.specs.Prelude.{◌≡◌, List, ◌++◌, ℕ}
+use Rattle.std.specs.Prelude.{List, ◌++◌, ℕ}
 use Rattle.field.specs.FieldLaws.{Laws}
 use Rattle.linear.specs.Span.{All, Row, InSpan, SameSpan, rows_of}
 use Rattle.linear.specs.Laws.Every.{all_map, all_append}
@@ -13,9 +12,7 @@ use Rattle.linear.specs.Laws.Element.{scalars}
 use Rattle.linear.specs.Laws.Entries.{at}
 use Rattle.linear.specs.Laws.Coefficients.{span-spanned, spanned-span}
 use Rattle.linear.specs.Laws.Mixture.{span-row, span-each, span-through}
-use Rattle.linear.specs.Laws.ReducedRows.{reduced-rows}
 use Rattle.linear.specs.Laws.ReducedOf.{reduced_of-reduced, reduced_of-span}
-use Rattle.linear.specs.Laws.Unique.{reduced-unique}
 use Rattle.spaces.specs.Spaces.{Within, JointSpace, joint_of, joint_dimension}
 use Rattle.spaces.specs.Laws.Append.{spanned-first, spanned-last}
 
@@ -61,13 +58,3 @@ module _ (q : ℕ) (laws : Laws q) (n : ℕ) where
 
         same : SameSpan q n (rows_of n (joint_dimension q n us vs) (joint_of q n us vs)) (us ++ vs)
         same = reduced_of-span q laws n (us ++ vs) h
-
-    pub joint-unique : (d : ℕ) (m : List ℕ) → JointSpace q n us vs d m → (d ≡ joint_dimension q n us vs) × (m ≡ joint_of q n us vs)
-    unfolding SameSpan Within
-    joint-unique d m c =
-        let own = joint-space in
-        reduced-unique q laws n c.reduced own.reduced
-        (λ v. (
-          c.smallest _ (reduced-rows q n own.reduced) own.first own.second v,
-          own.smallest _ (reduced-rows q n c.reduced) c.first c.second v,
-        ))

@@ -5,7 +5,7 @@ use native.Mathlib.Numerals.{add-one}
 use native.Mathlib.Omega.{arith}
 use Rattle.matrix.specs.Matrix.{entry}
 use Rattle.walk.specs.Walk.{entered, row_read}
-use Rattle.walk.specs.Laws.RowRead.{row_read_lem, read-room}
+use Rattle.walk.proofs.Laws.RowRead.{row_read_lem, read-room}
 use Rattle.walk.proofs.read_row.Statement.{statement}
 use Rattle.walk.proofs.read_row.Tie as tie
 

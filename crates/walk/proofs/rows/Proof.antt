@@ -5,7 +5,7 @@ use native.Mathlib.Numerals.{add-one}
 use native.Mathlib.Omega.{arith}
 use Rattle.basics.specs.Laws.Flat.{row_fits}
 use Rattle.walk.specs.Walk.{ended, walked}
-use Rattle.walk.specs.Laws.Ended.{room-walked}
+use Rattle.walk.proofs.Laws.Ended.{room-walked}
 use Rattle.walk.proofs.rows.Statement.{statement}
 use Rattle.walk.proofs.rows.Tie as tie
 

@@ -5,7 +5,7 @@ use native.Mathlib.Numerals.{add-one}
 use native.Mathlib.Omega.{arith}
 use borrow.Author.Rules.{rules}
 use Rattle.walk.specs.Walk.{digit}
-use Rattle.walk.specs.Laws.RowRead.{entered_by, shifted-digit, digit-fits}
+use Rattle.walk.proofs.Laws.RowRead.{entered_by, shifted-digit, digit-fits}
 use Rattle.walk.proofs.Row.enter.Statement.{statement}
 use Rattle.walk.proofs.Row.enter.Tie as tie
 

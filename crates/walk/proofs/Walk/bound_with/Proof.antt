@@ -2,7 +2,7 @@
 use mathlib.Core.Path.{◌∙◌}
 use native.Mathlib.Numerals.{add-one}
 use borrow.Author.Rules.{rules}
-use Rattle.walk.specs.Laws.Ended.{bounded-none, bounded-more, bounded-same}
+use Rattle.walk.proofs.Laws.Ended.{bounded-none, bounded-more, bounded-same}
 use Rattle.walk.proofs.Walk.bound_with.Statement.{statement}
 use Rattle.walk.proofs.Walk.bound_with.Tie as tie
 

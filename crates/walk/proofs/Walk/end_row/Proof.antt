@@ -8,7 +8,7 @@ use borrow.Author.Rules.{rules}
 use lib.Count.{count_trailing_zeros, trailing_le}
 use lib.Pow.{pow_mono, pow_pos}
 use Rattle.walk.specs.Walk.{extends}
-use Rattle.walk.specs.Laws.Ended.{extends-of, ended-broken, ended-sound, room_for}
+use Rattle.walk.proofs.Laws.Ended.{extends-of, ended-broken, ended-sound, room_for}
 use Rattle.walk.proofs.Walk.end_row.Statement.{statement}
 use Rattle.walk.proofs.Walk.end_row.Tie as tie
 

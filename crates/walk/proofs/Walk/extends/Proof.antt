@@ -3,7 +3,7 @@ use mathlib.Core.Path.{◌≡◌}
 use mathlib.Core.Bool.{true}
 use borrow.Author.Rules.{rules}
 use borrow.Author.Tests.{not-true, not-false}
-use Rattle.walk.specs.Laws.Ended.{extends-unsound, extends-outside, extends-more, extends-left, extends-last}
+use Rattle.walk.proofs.Laws.Ended.{extends-unsound, extends-outside, extends-more, extends-left, extends-last}
 use Rattle.walk.proofs.Walk.extends.Statement.{statement}
 use Rattle.walk.proofs.Walk.extends.Tie as tie
 

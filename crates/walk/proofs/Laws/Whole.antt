@@ -13,8 +13,8 @@ use Rattle.matrix.specs.Matrix.{Reduced, is_reduced, identifying, entries_below}
 use Rattle.matrix.specs.Laws.Tests.{entries_below_lem, entries-below-true, reduced-exactly}
 use Rattle.walk.specs.Walk.{walked, oversized}
 use Rattle.walk.specs.Tells.{Oversized, Tells}
-use Rattle.walk.specs.Laws.After.{same_test}
-use Rattle.walk.specs.Laws.Tells.{walk-tells}
+use Rattle.walk.proofs.Laws.After.{same_test}
+use Rattle.walk.proofs.Laws.Tells.{walk-tells}
 
 other_test : (a b : Bool) → (T a → T b → ⊥) → ((T b → ⊥) → T a) → a ≡ not b
 other_test true true f g = absurd (f tt tt)

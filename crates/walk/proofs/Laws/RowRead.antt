@@ -13,7 +13,7 @@ use Rattle.matrix.specs.Matrix.{entry}
 use Rattle.matrix.specs.Laws.BitSum.{bits, bits_below}
 use Rattle.walk.specs.Walk.{digit, entered, row_read}
 use Rattle.walk.specs.Laws.Bound.{Bounds, bounds-none, bounds-more}
-use Rattle.walk.specs.Laws.Code.{code_bit, code-more}
+use Rattle.walk.proofs.Laws.Code.{code_bit, code-more}
 use Rattle.walk.specs.declared.Row.{Row}
 
 pub entered_by : (r : Row) (x : ℕ) {c g d : ℕ} → c ≡ suc r.column → g ≡ max r.greatest x

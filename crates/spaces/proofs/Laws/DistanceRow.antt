@@ -1,7 +1,6 @@
--- How far one row moves a span, over any field and for lists of any length. Order 10: "Dropping or adding one row moves a list's span by
--- distance at most 1, and replacing one by any other row by at most 2."
+-- How far one row more moves a span, over any field and for lists of any length. Order 10: "Dropping or adding one row moves a list's span
+-- by distance at most 1".
 --   distance-row       == with one row more, at any place, it is at most 1, and 1 exactly where the row isn't in the span of the others
---   distance-replaced  == with one row replaced, at any place and by any other, it is at most 2
 -- Assumes nothing.
 use Rattle.std.specs.Prelude.{◌≡◌, List, [], ◌∷◌, ◌++◌, ◌↔◌, ◌⊎◌, ℕ, ◌+◌, ◌≤◌}
 use Rattle.std.proofs.Common.{inl, inr, arith}
@@ -14,7 +13,7 @@ use Rattle.spaces.specs.Spaces.{Within}
 use Rattle.spaces.specs.Distance.{distance}
 use Rattle.spaces.specs.Laws.Joint.{both-within}
 use Rattle.spaces.specs.Laws.Growing.{among-within, dimension-grows}
-use Rattle.spaces.specs.Laws.Distance.{distance-symmetric, distance-triangle, distance-within}
+use Rattle.spaces.proofs.Laws.Distance.{distance-symmetric, distance-within}
 
 module _ (q : ℕ) (laws : Laws q) (n : ℕ) where
   -- the row x, at any place of a list, and the list without it
@@ -84,17 +83,3 @@ module _ (q : ℕ) (laws : Laws q) (n : ℕ) where
         cases (no outside) =
             let raised = dimension-raised q laws n (us ++ ws) others x hx outside in
             (omega (arith, apart), (λ e. outside, λ o. omega (arith, apart)))
-
-  pub distance-replaced : (us ws : List (List ℕ)) (x y : List ℕ) → All (Row q n) us → All (Row q n) ws → Row q n x → Row q n y
-      → distance q n (us ++ (x ∷ ws)) (us ++ (y ∷ ws)) ≤ 2
-  distance-replaced us ws x y hu hw hx hy =
-      let others = all_append hu hw in
-      let one = all_append hu (more hx hw) in
-      let other = all_append hu (more hy hw) in
-      omega (
-        arith,
-        distance-triangle q laws n (us ++ (x ∷ ws)) (us ++ ws) (us ++ (y ∷ ws)) one others other,
-        distance-symmetric q laws n (us ++ ws) (us ++ (y ∷ ws)) others other,
-        (distance-row us ws x hu hw hx).0,
-        (distance-row us ws y hu hw hy).0,
-      )

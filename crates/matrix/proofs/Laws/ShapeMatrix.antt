@@ -13,7 +13,7 @@ use Rattle.matrix.specs.Laws.Flatten.{length-flatten, entry-flatten, flatten-sam
 use Rattle.matrix.specs.Laws.Peel.{reduced-of}
 use Rattle.matrix.specs.Laws.ShapeLaws.{peeled-same}
 use Rattle.matrix.specs.Laws.Cell.{peeled-cell, peeled-entries}
-use Rattle.matrix.specs.Laws.Vector.{vector, identifying-vector}
+use Rattle.matrix.proofs.Laws.Vector.{vector, identifying-vector}
 
 module _ {q n k : ℕ} where
   pub shape-matrix : {m : List ℕ} {s : Shape} → Reduced q n k m → Peeled q (entry n m) k n s → m ≡ flatten k n (cell q s k n)

@@ -23,7 +23,7 @@ use Rattle.reduce.specs.Reduce.{most_rows, rows_size_refusal, row_list_refusal}
 use Rattle.reduce.specs.Laws.RowList.{rows-size-accepted, rows-size-unrefused}
 use Rattle.receive.specs.Answer.{Told}
 use Rattle.receive.specs.Receive.{rows_refusal, receive_refusal, receive_of}
-use Rattle.receive.specs.Laws.Space.{space-told, refused-told}
+use Rattle.receive.proofs.Laws.Space.{space-told, refused-told}
 use Rattle.receive.specs.declared.Received.{Received}
 
 pub record RowsAccepted (q n k t r size : ℕ) : Type 0 where

@@ -11,7 +11,7 @@ use Prim.Native.Nat.{ℕ, suc, ◌+◌, ◌-◌, ◌^◌, ◌<◌, ◌≤◌}
 use native.Mathlib.Omega.{arith}
 use Rattle.basics.specs.Sum.{sum}
 use Rattle.matrix.specs.Matrix.{pivot, identifying, Reduced}
-use Rattle.matrix.specs.Laws.Vector.{identifying-rows, identifying-below}
+use Rattle.matrix.proofs.Laws.Vector.{identifying-rows, identifying-below}
 
 abbrev pub row_power : ℕ → List ℕ → ℕ → ℕ
 row_power n m a = 2 ^ (n - 1 - pivot n m a)

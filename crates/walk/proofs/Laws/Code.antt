@@ -23,7 +23,7 @@ use Rattle.basics.specs.Laws.Order.{trichotomy}
 use Rattle.matrix.specs.Matrix.{entry, lead}
 use Rattle.matrix.specs.Laws.BitSum.{bits, bits-front, bits-split, bits_at, bits_none}
 use Rattle.matrix.specs.Laws.Lead.{lead-before}
-use Rattle.matrix.specs.Laws.Pivots.{trailing-of}
+use Rattle.matrix.proofs.Laws.Pivots.{trailing-of}
 use Rattle.walk.specs.Walk.{digit}
 
 unfoldable pub code_bit : (ℕ → ℕ) → ℕ → Bool

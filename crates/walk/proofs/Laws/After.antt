@@ -19,12 +19,12 @@ use Rattle.matrix.specs.Matrix.{entry, pivot, is_reduced}
 use Rattle.matrix.specs.Laws.BitSum.{bits, bits_none, bits-or}
 use Rattle.matrix.specs.Laws.Lead.{lead-nonzero}
 use Rattle.matrix.specs.Laws.Rows.{reduced-rows, rows-reduced, rows-less, rows_more}
-use Rattle.matrix.specs.Laws.VectorRows.{row_power}
+use Rattle.matrix.proofs.Laws.VectorRows.{row_power}
 use Rattle.walk.specs.Walk.{extends, bounded, ended, walked}
 use Rattle.walk.specs.Laws.Bound.{Bounds, bounds-none, bounds-joined}
-use Rattle.walk.specs.Laws.Code.{code_bit, one-lowest, more-lowest, none-lowest, above, above-clear, clear_above, two-bits}
-use Rattle.walk.specs.Laws.RowRead.{Read, row_read_lem}
-use Rattle.walk.specs.Laws.Ended.{Extends, extends-of, extends-true}
+use Rattle.walk.proofs.Laws.Code.{code_bit, one-lowest, more-lowest, none-lowest, above, above-clear, clear_above, two-bits}
+use Rattle.walk.proofs.Laws.RowRead.{Read, row_read_lem}
+use Rattle.walk.proofs.Laws.Ended.{Extends, extends-of, extends-true}
 use Rattle.walk.specs.declared.Row.{Row}
 use Rattle.walk.specs.declared.Walk.{Walk}
 

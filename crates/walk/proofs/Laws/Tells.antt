@@ -14,11 +14,11 @@ use Rattle.matrix.specs.Matrix.{entry, Reduced, identifying, entries_below}
 use Rattle.matrix.specs.Laws.Lead.{lead-same}
 use Rattle.matrix.specs.Laws.Rows.{reduced-rows, rows-reduced, rows_same}
 use Rattle.matrix.specs.Laws.Tests.{entries-below-true, reduced-exactly}
-use Rattle.matrix.specs.Laws.Vector.{identifying-rows}
-use Rattle.matrix.specs.Laws.VectorRows.{row_power}
+use Rattle.matrix.proofs.Laws.Vector.{identifying-rows}
+use Rattle.matrix.proofs.Laws.VectorRows.{row_power}
 use Rattle.walk.specs.Walk.{walked}
 use Rattle.walk.specs.Tells.{Oversized, Tells}
-use Rattle.walk.specs.Laws.After.{After, walked-after}
+use Rattle.walk.proofs.Laws.After.{After, walked-after}
 use Rattle.walk.specs.declared.Walk.{Walk}
 
 is_false : (b : Bool) → (T b → ⊥) → b ≡ false

@@ -17,8 +17,8 @@ use Rattle.basics.specs.Sum.{sum}
 use Rattle.matrix.specs.Matrix.{pivot, identifying, Reduced}
 use Rattle.matrix.specs.Laws.Rows.{rising-far}
 use Rattle.matrix.specs.Laws.Bits.{shifted_one}
-use Rattle.matrix.specs.Laws.Vector.{identifying-rows}
-use Rattle.matrix.specs.Laws.VectorRows.{row_power}
+use Rattle.matrix.proofs.Laws.Vector.{identifying-rows}
+use Rattle.matrix.proofs.Laws.VectorRows.{row_power}
 
 pub trailing-of : (w e x : ℕ) → e < w → count_trailing_zeros w ((1 + 2 * x) * 2 ^ e) ≡ e
 unfolding count_trailing_zeros

@@ -1,0 +1,2 @@
+-- Lemmas; no part of the meaning.
+pub mod InSpan
