@@ -114,11 +114,11 @@ loop-again c =
     let s = c.before.before.before.before.before in (
       omega arith,
       elim c.if-pivot_at.branch [
-        then-pivot_at w ↦
-          let g = pivoted c.before _ w.free_count-index.ensures w.if-pivot_at.true in
-          rw (w.index-is, w.rows-is, (ranking-rows g s.args.v s.requires.2 _ w.ones_below.ensures).1) g
+        | then-pivot_at w ↦
+            let g = pivoted c.before _ w.free_count-index.ensures w.if-pivot_at.true in
+            rw (w.index-is, w.rows-is, (ranking-rows g s.args.v s.requires.2 _ w.ones_below.ensures).1) g
         | else-pivot_at w ↦
-          rw (w.index-is, w.rows-is) (freed c.before _ _ w.append_digits.ensures w.coefficient.ensures w.if-pivot_at.false)
+            rw (w.index-is, w.rows-is) (freed c.before _ _ w.append_digits.ensures w.coefficient.ensures w.if-pivot_at.false)
       ],
     )
 
