@@ -3,7 +3,7 @@
 --   own-fits        == and nothing else fits
 --   fitting-rows    == the rows that fit are rows
 -- Assumes nothing.
-use Rattle.std.specs.Prelude.{◌≡◌, refl, Bool, true, false, ◌&&◌, List, [], ◌∷◌, ℕ, eqb, length}
+use Rattle.std.specs.Prelude.{◌≡◌, refl, Bool, true, false, ◌&&◌, List, [], ◌∷◌, eqb, length}
 use Rattle.std.proofs.Common.{ap₂, eq-eqb, eqb→eq}
 use Rattle.basics.specs.Choice.{pick}
 use Rattle.basics.specs.Laws.Choice.{holds}
