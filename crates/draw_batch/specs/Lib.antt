@@ -1,5 +1,4 @@
 -- draw_batch: Draw over a list of indexes.
 pub mod Batch
 pub mod Places
-pub mod One
 pub mod Laws

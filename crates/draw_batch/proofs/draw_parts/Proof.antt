@@ -5,8 +5,8 @@ use native.Mathlib.Omega.{arith}
 use lib.ListN.{length}
 use Rattle.settings.specs.Laws.Accepted.{entry-of-accepted}
 use Rattle.numbering.specs.Laws.Chosen.{Chosen, chosen, accepted-bytes}
-use Rattle.draw_batch.specs.Laws.Drawing.{Drawing, drawing-start, drawing-size, drawing-count, drawing-end}
-use Rattle.draw_batch.specs.Laws.Drawing.{drawing-room, drawing-part, drawing-more}
+use Rattle.draw_batch.proofs.Drawing.{Drawing, drawing-start, drawing-size, drawing-count, drawing-end}
+use Rattle.draw_batch.proofs.Drawing.{drawing-room, drawing-part, drawing-more}
 use borrow.Author.Rules.{rules}
 use Rattle.draw_batch.proofs.draw_parts.Statement.{statement}
 use Rattle.draw_batch.proofs.draw_parts.Tie as tie

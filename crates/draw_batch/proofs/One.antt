@@ -12,7 +12,8 @@ use Rattle.numbering.specs.Numbering.{choice_refusal}
 use Rattle.draw.specs.Draw.{draw_refusal, draw_buffer}
 use Rattle.draw.specs.Laws.DrawAccepted.{draw-choice, draw-sized, draw-kept}
 use Rattle.draw_batch.specs.Batch.{batch_refusal, batch_matrices, batch_answers}
-use Rattle.draw_batch.specs.Places.{part, order-6}
+use Rattle.draw_batch.specs.Places.{part}
+use Rattle.draw_batch.proofs.Theorems.{order-6}
 
 single : (l : List ℕ) → length l ≡ 1 → l ≡ get_or l 0 0 ∷ []
 single [] e = absurd (omega (arith, e))

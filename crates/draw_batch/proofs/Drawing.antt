@@ -14,7 +14,7 @@ use Rattle.basics.specs.Laws.TableSize.{tabulate-length}
 use Rattle.basics.specs.Laws.TableWrite.{write-none, write-more, write-all}
 use Rattle.draw.specs.Draw.{draw_buffer}
 use Rattle.draw_batch.specs.Batch.{draw_parts, answer_at, draw_answers}
-use Rattle.draw_batch.specs.Laws.DrawParts.{parts-length, parts_more}
+use Rattle.draw_batch.proofs.DrawParts.{parts-length, parts_more}
 
 pub record Drawing (q n k t : ℕ) (indexes bytes old matrices answers : List ℕ) (at place : ℕ) : Type 0 where
   pub within : place ≤ length indexes
