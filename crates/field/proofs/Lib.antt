@@ -1,2 +1,3 @@
 pub mod Sizes
 pub mod Bytes
+pub mod Remainders

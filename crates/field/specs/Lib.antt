@@ -1,6 +1,5 @@
 -- field: the arithmetic of the field with q elements, and the laws that it obeys.
 pub mod Polynomial
 pub mod Field
-pub mod Remainders
 pub mod FieldLaws
 pub mod Laws

@@ -6,7 +6,7 @@ use lib.Bits.{bit_xor}
 use Rattle.basics.specs.Choice.{pick}
 use Rattle.basics.specs.Laws.Choice.{is_true}
 use Rattle.field.specs.Field.{is_polynomial, add as sum, multiply as product}
-use Rattle.field.specs.Remainders.{product-exactly}
+use Rattle.field.proofs.Remainders.{product-exactly}
 use Rattle.field.specs.Laws.Kinds.{polynomial-small}
 use Rattle.field.proofs.add_polynomial.Statement.{statement}
 use Rattle.field.proofs.add_polynomial.Tie as tie
