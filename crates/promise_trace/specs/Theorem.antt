@@ -21,7 +21,7 @@ use Rattle.numbering.specs.Laws.Chosen.{first-known}
 use Rattle.receiver.specs.Receiver.{Setup, Offer, setup, setup_of, setup_refusal, held_rows, holding, take_of, lent_receiver, take_raised}
 use Rattle.receiver.specs.Laws.Sound.{sound}
 use Rattle.receiver.specs.Laws.Held.{settings-laws, holding-exactly}
-use Rattle.receiver.specs.Laws.TakeAccepted.{take-told}
+use Rattle.receiver.proofs.Laws.TakeTold.{take-told}
 use Rattle.receiver.specs.declared.Receiver.{Receiver}
 use Rattle.promise_recovery.specs.Calls.{Call, take_value, take_lent, close, begun, after, accepted, Reachable}
 use Rattle.promise_recovery.specs.Laws.After.{after_holds, after-setup, accepted-rows}

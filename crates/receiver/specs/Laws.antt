@@ -4,4 +4,3 @@ pub mod Held
 pub mod Untouched
 pub mod WellFormed
 pub mod TakeAccepted
-pub mod TakenIn

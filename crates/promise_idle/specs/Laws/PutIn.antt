@@ -19,7 +19,8 @@ use Rattle.receiver.specs.Receiver.{Setup, Offer, setup_of, held_rows, is_zero, 
 use Rattle.receiver.specs.Receiver.{take_number, take_raised, take_idle, TakeTells}
 use Rattle.receiver.specs.Laws.Sound.{sound}
 use Rattle.receiver.specs.Laws.Held.{held_kept, holding-size}
-use Rattle.receiver.specs.Laws.TakeAccepted.{take-accepted, accepted-row, take-told}
+use Rattle.receiver.specs.Laws.TakeAccepted.{take-accepted, accepted-row}
+use Rattle.receiver.proofs.Laws.TakeTold.{take-told}
 use Rattle.receiver.specs.declared.Receiver.{Receiver}
 use Rattle.receiver.specs.declared.Taken.{Taken}
 use Rattle.receiver.specs.declared.TakeAnswer.{TakeAnswer}

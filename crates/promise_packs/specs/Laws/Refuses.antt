@@ -9,7 +9,8 @@ use Rattle.std.proofs.Common.{ap, ◌∙◌, arith}
 use Rattle.std.proofs.Math.Path.{sym}
 use Rattle.refusal.specs.Laws.First.{kept}
 use Rattle.receiver.specs.Receiver.{Offer, well_formed, take_refusal, take_of, taken_as, take_number}
-use Rattle.receiver.specs.Laws.TakeAccepted.{take-forged, take-foreign, foreign-only, unforged, take-told}
+use Rattle.receiver.specs.Laws.TakeAccepted.{take-forged, take-foreign, foreign-only, unforged}
+use Rattle.receiver.proofs.Laws.TakeTold.{take-told}
 use Rattle.receiver.specs.declared.Receiver.{Receiver}
 use Rattle.receiver.specs.declared.Taken.{Taken}
 use Rattle.receiver.specs.declared.TakeAnswer.TheVariants.{Refused}

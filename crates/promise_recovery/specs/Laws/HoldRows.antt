@@ -24,7 +24,8 @@ use Rattle.receiver.specs.Receiver.{Setup, Offer, setup_of, setup_refusal, made,
 use Rattle.receiver.specs.Receiver.{take_refusal, taken_in, take_of, taken_as, take_number, TakeTells}
 use Rattle.receiver.specs.Laws.Sound.{sound, well-formed}
 use Rattle.receiver.specs.Laws.Held.{settings-laws, held_kept, held-again, holding-rows, holding-size, holding-sound}
-use Rattle.receiver.specs.Laws.TakeAccepted.{take-accepted, accepted-row, take_row, take-told}
+use Rattle.receiver.specs.Laws.TakeAccepted.{take-accepted, accepted-row, take_row}
+use Rattle.receiver.proofs.Laws.TakeTold.{take-told}
 use Rattle.receiver.specs.declared.Receiver.{Receiver}
 use Rattle.receiver.specs.declared.Taken.{Taken}
 use Rattle.receiver.specs.declared.TakeAnswer.TheVariants.{Refused}

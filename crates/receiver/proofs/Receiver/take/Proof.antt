@@ -5,7 +5,8 @@ use Rattle.basics.specs.Choice.{pick}
 use Rattle.refusal.specs.Laws.First.{kept, done}
 use Rattle.matrix.specs.Matrix.{identifying}
 use Rattle.receiver.specs.Receiver.{offer, used, is_zero, take_refusal, taken_in, take_of, taken_as}
-use Rattle.receiver.specs.Laws.TakeAccepted.{TakeAccepted, take-accepted, zero-idle, take-told}
+use Rattle.receiver.specs.Laws.TakeAccepted.{TakeAccepted, take-accepted}
+use Rattle.receiver.proofs.Laws.TakeTold.{zero-idle, take-told}
 use Rattle.receiver.specs.declared.Taken.{Taken}
 use Rattle.receiver.specs.declared.TakeAnswer.TheVariants.{Refused}
 use borrow.Author.Rules.{rules}

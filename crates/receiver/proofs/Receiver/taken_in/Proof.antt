@@ -9,7 +9,7 @@ use Rattle.linear.specs.Span.{Row}
 use Rattle.receiver.specs.Receiver.{used}
 use Rattle.receiver.specs.Laws.Sound.{Sound, sound}
 use Rattle.receiver.specs.Laws.TakeAccepted.{accepted-row}
-use Rattle.receiver.specs.Laws.TakenIn.{lent_fits, lent-size, lent-kept, lent-held, lent-leads, taken-raised, taken-held}
+use Rattle.receiver.proofs.Laws.TakenIn.{lent_fits, lent-size, lent-kept, lent-held, lent-leads, taken-raised, taken-held}
 use borrow.Author.Rules.{rules}
 use Rattle.receiver.proofs.Receiver.taken_in.Statement.{statement}
 use Rattle.receiver.proofs.Receiver.taken_in.Tie as tie

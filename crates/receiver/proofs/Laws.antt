@@ -1,0 +1,3 @@
+-- Lemmas; no part of the meaning.
+pub mod TakenIn
+pub mod TakeTold

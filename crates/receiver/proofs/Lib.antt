@@ -1,0 +1,2 @@
+-- Lemmas that need no place in specs/.
+pub mod Laws
