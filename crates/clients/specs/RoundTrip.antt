@@ -2,9 +2,9 @@
 --   round_trip   == where Draw is not refused and the answer has eleven bytes, Receive of the drawn bytes is done, and leaves the index, k
 --                   and the drawn matrix's identifying vector; the index is what the first eight bytes tell
 -- Assumes nothing.
-use Rattle.std.specs.Prelude.{◌≡◌, refl, List, ℕ, ◌^◌, ◌<◌, length, take}
+use Rattle.std.specs.Prelude.{◌≡◌, List, ℕ, ◌^◌, ◌<◌, length, take}
 use Rattle.std.proofs.Math.Path.{ap}
-use Rattle.std.proofs.Common.{sym, ◌∙◌}
+use Rattle.std.proofs.Common.{◌∙◌}
 use Rattle.settings.specs.Laws.Accepted.{not-refused}
 use Rattle.matrix.specs.Matrix.{identifying}
 use Rattle.numbering.specs.Numbering.{index_in}
