@@ -17,7 +17,8 @@ use Rattle.numbering.specs.Laws.Chosen.{chosen}
 use Rattle.draw.specs.Draw.{draw_buffer}
 use Rattle.drawing.specs.Drawing.{drawing}
 use Rattle.draw_batch.specs.Batch.{batch_refusal, batch_matrices, batch_answers}
-use Rattle.draw_batch.specs.Places.{part, Place, order-6}
+use Rattle.draw_batch.specs.Places.{part, Place}
+use Rattle.draw_batch.proofs.Theorems.{order-6}
 use Rattle.draw_batch.specs.Laws.BatchAccepted.{BatchAccepted, batch-accepted}
 use Rattle.number.specs.Number.{number_of}
 use Rattle.number.specs.declared.Numbered.TheVariants.{Done}

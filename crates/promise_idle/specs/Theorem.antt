@@ -59,15 +59,15 @@ zeros-idle s settings cs =
         → t.receiver ≡ after (begun s) cs
     still A = A.untouched (λ e. holds false (ap take_idle (sym e ∙ A.idle.1 (refl, refl))))
 
-pub zeros-unharmed : (r : Receiver) → length r.entries ≡ 256 → {n : ℕ} {cs ds : List Call} → WithIdle n cs ds
+pub zeros-unharmed : {n : ℕ} (r : Receiver) → length r.entries ≡ 256 → {cs ds : List Call} → WithIdle n cs ds
     → after r ds ≡ after r cs
 unfolding after
 zeros-unharmed r size nothing = refl
 zeros-unharmed r size (call (take_value o) w) = zeros-unharmed (take_of r o).receiver (take-size r size o) w
 zeros-unharmed r size (call (take_lent o) w) = zeros-unharmed (take_of r o).receiver (take-size r size o) w
 zeros-unharmed r size (call (close t) w) = zeros-unharmed r size w
-zeros-unharmed r size {n} (idle_value {ds = ds} pack w) = ap (λ x. after x ds) (zero-untouched r size pack n) ∙ zeros-unharmed r size w
-zeros-unharmed r size {n} (idle_lent {ds = ds} pack w) = ap (λ x. after x ds) (zero-untouched r size pack n) ∙ zeros-unharmed r size w
+zeros-unharmed {n} r size (idle_value {ds = ds} pack w) = ap (λ x. after x ds) (zero-untouched r size pack n) ∙ zeros-unharmed r size w
+zeros-unharmed {n} r size (idle_lent {ds = ds} pack w) = ap (λ x. after x ds) (zero-untouched r size pack n) ∙ zeros-unharmed r size w
 
 pub zeros-anywhere : (r : Receiver) → length r.entries ≡ 256 → (pack n : ℕ) (cs ds : List Call)
     → (after r (cs ++ (take_value (zeros pack n) ∷ ds)) ≡ after r (cs ++ ds))
