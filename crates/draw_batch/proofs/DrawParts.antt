@@ -14,7 +14,7 @@ use Rattle.std.proofs.Math.ListN.{length, take, drop, length-append, length-drop
 use Rattle.std.proofs.Math.Seq.{take_at, take-append-add, drop-append-add, length-take-le}
 use Rattle.basics.specs.Laws.Parts.{part-next}
 use Rattle.draw.specs.Draw.{draw_buffer}
-use Rattle.draw.specs.Laws.DrawAccepted.{draw-length}
+use Rattle.draw.proofs.DrawLength.{draw-length}
 use Rattle.draw_batch.specs.Batch.{draw_parts}
 
 module _ (q n k t : ℕ) where

@@ -10,13 +10,8 @@ pub mod TableauFormula
 pub mod PlaceFormula
 pub mod Formula
 pub mod RankOrder
-pub mod BeforeLaws
-pub mod Theorems
 pub mod Weight
 pub mod SizeOf
-pub mod IndexParts
-pub mod PlaceOf
-pub mod TableauOf
 pub mod FindSize
 pub mod VectorAt
 pub mod Inner

@@ -3,20 +3,16 @@
 --   draw-accepted, draw-unrefused == what is not refused is DrawAccepted; and back
 --   draw-choice, draw-sized, draw-beyond == a choice that is refused is refused so; else a wrong length 4; else an index of N or more 5
 --   draw-leaves, draw-kept      == what an unrefused Draw leaves, and a refused one
---   draw-length                 == Draw leaves as many bytes as it was lent, refused or not
 -- Assumes nothing.
 use Rattle.std.specs.Prelude.{◌≡◌, ℕ, ◌*◌, ◌<◌, ◌≤◌, eqb, ltb, length}
-use Rattle.std.proofs.Common.{ap, sym, ◌∙◌}
+use Rattle.std.proofs.Common.{◌∙◌}
 use mathlib.Core.List.{List, [], ◌∷◌}
-use Rattle.std.proofs.Math.Decide.{ℕ_discrete}
 use borrow.Author.Tests.{eq-eqb, ne_eqb, eqb-true, lt-ltb, le-ltb, ltb-true}
 use Rattle.refusal.specs.Refusal.{refuse_unless, length_refusal, index_refusal}
 use Rattle.refusal.specs.Laws.First.{first-zero, first-refused, first-passed, test_zero, test-passed, test-refused, first-none, done, kept}
 use Rattle.counts.specs.Gaussian.{gaussian}
-use Rattle.settings.specs.Laws.Accepted.{not-refused}
 use Rattle.numbering.specs.Numbering.{choice_refusal, drawn}
 use Rattle.numbering.specs.Laws.Chosen.{Chosen, chosen}
-use Rattle.numbering.specs.Laws.Either.{either}
 use Rattle.draw.specs.Draw.{draw_refusal, draw_buffer}
 
 pub record DrawAccepted (q n k t i size : ℕ) : Type 0 where
@@ -63,14 +59,3 @@ module _ (q n k t i : ℕ) where
   pub draw-kept : (b : List ℕ) → (draw_refusal q n k t i (length b) ≡ 0 → ⊥) → b ≡ draw_buffer q n k t i b
   unfolding draw_buffer
   draw-kept b z = kept _ _ _ z
-
-  pub draw-length : (b : List ℕ) → length (draw_buffer q n k t i b) ≡ length b
-  draw-length b = cases (ℕ_discrete (draw_refusal q n k t i (length b)) 0)
-    where
-      cases : Dec (draw_refusal q n k t i (length b) ≡ 0) → length (draw_buffer q n k t i b) ≡ length b
-      cases (yes z) =
-          let a = draw-accepted (length b) z in
-          ap length (sym (draw-leaves b z))
-          ∙ ((either q n k t (not-refused q n k a.choice.settings)).drawn-reduced i a.inside).size
-          ∙ sym a.sized
-      cases (no z) = ap length (sym (draw-kept b z))

@@ -4,8 +4,8 @@ use mathlib.Core.Path.{◌≡◌, ◌∙◌, sym}
 use mathlib.Core.Bool.{true, false}
 use Prim.Native.Nat.{ℕ, ◌+◌, ◌-◌, ◌≤◌}
 use native.Mathlib.Omega.{arith}
-use Rattle.ferrers.specs.Laws.IndexParts.{parts}
-use Rattle.ferrers.specs.Laws.PlaceOf.{Placing, PlacedPivot, PlacedFree, placing-start, placing-pivot, placing-free, placing-end}
+use Rattle.ferrers.proofs.IndexParts.{parts}
+use Rattle.ferrers.proofs.PlaceOf.{Placing, PlacedPivot, PlacedFree, placing-start, placing-pivot, placing-free, placing-end}
 use Rattle.partitions.specs.Partitions.{free_count}
 use Rattle.ferrers.proofs.place_of.Lts.{then-pivot_at, else-pivot_at}
 use Rattle.ferrers.proofs.place_of.Statement.{statement}

@@ -4,7 +4,7 @@ use Prim.Native.Nat.{◌+◌, ◌*◌, ◌-◌, ◌^◌, ◌≤◌}
 use native.Mathlib.Omega.{arith}
 use borrow.Author.Rules.{rules}
 use Rattle.ferrers.specs.Ferrers.{size, larger_diagrams, ferrers_index}
-use Rattle.ferrers.specs.Laws.IndexParts.{Parts, parts, place_of}
+use Rattle.ferrers.proofs.IndexParts.{Parts, parts, place_of}
 use Rattle.ferrers.specs.Laws.Weight.{sizes}
 use Rattle.ferrers.proofs.rank.Statement.{statement}
 use Rattle.ferrers.proofs.rank.Tie as tie

@@ -5,7 +5,7 @@ use mathlib.Core.Bool.{true, false}
 use Prim.Native.Nat.{◌-◌, ◌≤◌}
 use native.Mathlib.Nat.{zero-mul, zero-add}
 use native.Mathlib.Omega.{arith}
-use Rattle.ferrers.specs.Laws.TableauOf.{Reading, ReadColumn, reading-start, reading-pivot, reading-free, reading-end}
+use Rattle.ferrers.proofs.TableauOf.{Reading, ReadColumn, reading-start, reading-pivot, reading-free, reading-end}
 use Rattle.ferrers.proofs.tableau_of.Lts.{then-pivot_at, else-pivot_at}
 use Rattle.ferrers.proofs.tableau_of.Statement.{statement}
 use Rattle.ferrers.proofs.tableau_of.Tie as tie

@@ -20,7 +20,7 @@ use Rattle.settings.specs.Laws.Listable.{Listable}
 use Rattle.extended.specs.Drawn.{drawn_extended}
 use Rattle.extended.specs.Laws.Theorems.{drawn-reduced}
 use Rattle.ferrers.specs.Ferrers.{ferrers_index}
-use Rattle.ferrers.specs.Laws.Theorems.{index-below-count}
+use Rattle.ferrers.proofs.Theorems.{index-below-count}
 use Rattle.text.specs.Text.{line_feed, numeral}
 use Rattle.rows_text.specs.Rows.{DigitRows, rows_text}
 use Rattle.text.specs.Laws.Numeral.{numeral-length}

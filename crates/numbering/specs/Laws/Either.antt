@@ -13,7 +13,7 @@ use Rattle.settings.specs.Settings.{settings_refusal}
 use Rattle.settings.specs.Laws.Accepted.{accepted}
 use Rattle.matrix.specs.Matrix.{Reduced}
 use Rattle.extended.specs.Laws.Theorems as extended-theorems
-use Rattle.ferrers.specs.Laws.Theorems as ferrers-theorems
+use Rattle.ferrers.proofs.Theorems as ferrers-theorems
 use Rattle.numbering.specs.Numbering.{extended, Numbering, extended_numbering, ferrers_numbering, numbering_of, index_in, index_value}
 
 pub record Orderly (N : Numbering) (q n k : ℕ) : Type 0 where

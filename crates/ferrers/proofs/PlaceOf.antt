@@ -17,7 +17,7 @@ use Rattle.matrix.proofs.Laws.Walk.{walk-pivot, walk-free, walk_end}
 use Rattle.ferrers.specs.Laws.DiagramFormula.{size-formula}
 use Rattle.ferrers.specs.Ferrers.{size}
 use Rattle.ferrers.specs.Laws.Formula.{place-formula}
-use Rattle.ferrers.specs.Laws.IndexParts.{place_of}
+use Rattle.ferrers.proofs.IndexParts.{place_of}
 use Rattle.partitions.specs.Partitions.{free_count}
 use Rattle.ferrers.specs.Laws.ShapeRank.{shape_size, shape_place}
 

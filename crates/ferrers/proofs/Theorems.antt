@@ -23,10 +23,10 @@ use Rattle.matrix.specs.Laws.Peel.{peeled-of}
 use Rattle.matrix.specs.Laws.ShapeLaws.{peeled-valid}
 use Rattle.matrix.specs.Shape.{cell, flatten}
 use Rattle.matrix.proofs.Laws.ShapeMatrix.{shape-matrix, shape-peeled, shape-reduced}
-use Rattle.ferrers.specs.Laws.BeforeLaws.{diagram-length, same_size, index_same, index-larger, index-fuller, index-smaller}
-use Rattle.ferrers.specs.Laws.BeforeLaws.{before-compared}
+use Rattle.ferrers.proofs.BeforeLaws.{diagram-length, same_size, index_same, index-larger, index-fuller, index-smaller}
+use Rattle.ferrers.proofs.BeforeLaws.{before-compared}
 use Rattle.ferrers.specs.Ferrers.{diagram, size, tableau_value, ferrers_index, ferrers_before, larger, fuller, smaller}
-use Rattle.ferrers.specs.Laws.Formula.{ferrers-formula}
+use Rattle.ferrers.proofs.Formula14.{ferrers-formula}
 use Rattle.ferrers.specs.Drawn.{ferrers_shape, drawn_ferrers}
 use Rattle.ferrers.specs.Laws.ShapeBounds.{rank_below}
 use Rattle.ferrers.specs.Laws.ShapeIndex.{shape-valid, rank-of-shape, shape-of-rank}

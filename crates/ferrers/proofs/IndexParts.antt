@@ -11,7 +11,7 @@ use Rattle.settings.specs.Laws.Accepted.{Accepted}
 use Rattle.matrix.specs.Matrix.{Reduced}
 use Rattle.ferrers.specs.Laws.SizeOf.{size-within}
 use Rattle.ferrers.specs.Ferrers.{size, diagram, diagram_place, larger_diagrams, tableau_value, ferrers_index}
-use Rattle.ferrers.specs.Laws.Theorems.{index-below-count}
+use Rattle.ferrers.proofs.Theorems.{index-below-count}
 
 abbrev pub place_of : ℕ → ℕ → List ℕ → ℕ
 place_of n k m = diagram_place k (n - k) (diagram n k m) (size n k m)

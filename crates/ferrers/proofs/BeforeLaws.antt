@@ -17,7 +17,7 @@ use Rattle.matrix.specs.Laws.ShapeLaws.{peeled-valid}
 use Rattle.ferrers.specs.Laws.DiagramFormula.{diagram-formula, size-formula}
 use Rattle.ferrers.specs.Ferrers.{diagram, total, size, tableau_value, diagram_place, larger_diagrams, ferrers_index, ferrers_before}
 use Rattle.ferrers.specs.Ferrers.{larger, fuller, smaller}
-use Rattle.ferrers.specs.Laws.Formula.{ferrers-formula}
+use Rattle.ferrers.proofs.Formula14.{ferrers-formula}
 use Rattle.ferrers.specs.Laws.Heights.{heights-length}
 use Rattle.ferrers.specs.Laws.RankOrder.{rank-larger, rank-fuller}
 

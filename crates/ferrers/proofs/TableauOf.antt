@@ -23,7 +23,7 @@ use Rattle.matrix.specs.Shape.{Shape, empty}
 use Rattle.matrix.specs.Laws.Shape.{top_value}
 use Rattle.matrix.proofs.Laws.Walk.{walk-pivot, walk-free, walk_end}
 use Rattle.ferrers.specs.Ferrers.{tableau_value}
-use Rattle.ferrers.specs.Laws.IndexParts.{parts}
+use Rattle.ferrers.proofs.IndexParts.{parts}
 use Rattle.ferrers.specs.Laws.ShapeRank.{shape_size, shape_tableau}
 use Rattle.ferrers.specs.Laws.TableauFormula.{tableau-formula}
 

@@ -1,0 +1,2 @@
+-- A theorem of Draw.
+pub mod DrawLength
