@@ -4,7 +4,7 @@
 --   forged-exactly  == 14 exactly where Start and Take cannot leave the receiver
 --   foreign-exactly == 17 exactly where they can, and the row is offered for another pack
 -- Assumes nothing.
-use Rattle.std.specs.Prelude.{◌≡◌, refl, Bool, true, false, List, ◌↔◌, ℕ, length}
+use Rattle.std.specs.Prelude.{◌≡◌, refl, Bool, true, false, ◌↔◌, ℕ, length}
 use Rattle.std.proofs.Common.{ap, ◌∙◌, arith}
 use Rattle.std.proofs.Math.Path.{sym}
 use Rattle.refusal.specs.Laws.First.{kept}

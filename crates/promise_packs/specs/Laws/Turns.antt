@@ -20,6 +20,7 @@ turns-all (first t) (more p ps) qs = more p (turns-all t ps qs)
 turns-all (second t) ps (more p qs) = more p (turns-all t ps qs)
 
 pub turns-among : {A : Type 0} {x : A} {xs ys zs : List A} → Turns xs ys zs → Among x xs → Among x zs
+turns-among {A = A} nothing a = elim a [ ]
 turns-among (first t) here = here
 turns-among (first t) (later a) = later (turns-among t a)
 turns-among (second t) a = later (turns-among t a)
