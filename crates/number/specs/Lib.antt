@@ -1,3 +1,2 @@
 -- number: the call Number.
 pub mod Number
-pub mod Laws

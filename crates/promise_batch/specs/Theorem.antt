@@ -22,7 +22,7 @@ use Rattle.draw_batch.proofs.Theorems.{order-6}
 use Rattle.draw_batch.specs.Laws.BatchAccepted.{BatchAccepted, batch-accepted}
 use Rattle.number.specs.Number.{number_of}
 use Rattle.number.specs.declared.Numbered.TheVariants.{Done}
-use Rattle.number.specs.Laws.NumberAccepted.{reduced-numbered}
+use Rattle.number.proofs.NumberAccepted.{reduced-numbered}
 use Rattle.reduce.specs.Reduce.{most_rows}
 use Rattle.receiver.specs.Receiver.{setup}
 use Rattle.promise_recovery.specs.Calls.{Call, begun, accepted}

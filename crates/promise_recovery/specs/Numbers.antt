@@ -22,7 +22,7 @@ use Rattle.drawing.specs.Drawing.{drawing}
 use Rattle.drawing.specs.Laws.Draws.{draws}
 use Rattle.number.specs.Number.{number_of}
 use Rattle.number.specs.declared.Numbered.TheVariants.{Done}
-use Rattle.number.specs.Laws.NumberAccepted.{reduced-numbered}
+use Rattle.number.proofs.NumberAccepted.{reduced-numbered}
 use Rattle.convert.specs.Convert.{convert_of}
 use Rattle.convert.specs.Laws.ConvertAccepted.{convert-unrefused, convert-done}
 use Rattle.reduce.specs.Reduce.{most_rows}

@@ -4,7 +4,7 @@ use native.Mathlib.Omega.{arith}
 use Rattle.counts.specs.Gaussian.{gaussian}
 use Rattle.settings.specs.Laws.Accepted.{entry-of-accepted}
 use mathlib.Core.Bool.{true}
-use borrow.Author.Tests.{not-true, not-false, le-ltb}
+use borrow.Author.Tests.{le-ltb}
 use Rattle.refusal.specs.Laws.First.{first-refused, first-passed, test-refused, test-passed}
 use Rattle.numbering.specs.Numbering.{is_numbering, choice_refusal}
 use Rattle.numbering.specs.Laws.Chosen.{Chosen, chosen}

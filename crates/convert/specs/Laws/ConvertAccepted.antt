@@ -15,7 +15,7 @@ use Rattle.counts.specs.Gaussian.{gaussian}
 use Rattle.numbering.specs.Numbering.{is_numbering, choice_refusal, index_of, index_in, drawn}
 use Rattle.numbering.specs.Laws.Chosen.{Chosen, chosen}
 use Rattle.number.specs.Number.{answer_number, answer_index}
-use Rattle.number.specs.Laws.NumberAccepted.{answer-told}
+use Rattle.number.proofs.NumberAccepted.{answer-told}
 use Rattle.number.specs.declared.Numbered.{Numbered}
 use Rattle.number.specs.declared.Numbered.TheVariants.{Done}
 use Rattle.convert.specs.Convert.{convert_refusal, convert_of}

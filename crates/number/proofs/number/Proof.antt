@@ -13,8 +13,8 @@ use Rattle.walk.specs.Walk.{oversized}
 use Rattle.walk.proofs.Laws.Whole.{whole-entries, whole-rows, whole-vector}
 use Rattle.numbering.specs.Numbering.{choice_refusal}
 use Rattle.numbering.specs.Laws.Chosen.{chosen, accepted-bytes}
-use Rattle.number.specs.Laws.NumberAccepted.{by-choice, by_length, by-entry, by_form, reduced-numbered, number-refused}
-use Rattle.number.specs.Laws.NumberAccepted.{number-told}
+use Rattle.number.proofs.NumberAccepted.{by-choice, by_length, by-entry, by_form, reduced-numbered, number-refused}
+use Rattle.number.proofs.NumberAccepted.{number-told}
 use Rattle.number.specs.declared.Numbered.TheVariants.{Done}
 use Rattle.number.proofs.number.Statement.{statement}
 use Rattle.number.proofs.number.Tie as tie

@@ -1,0 +1,2 @@
+-- Order 4.
+pub mod Theorems
