@@ -1,4 +1,2 @@
 -- promise_idle: what Take answers of a row, and that zero rows never harm a record.
 pub mod Idle
-pub mod Laws
-pub mod Theorem

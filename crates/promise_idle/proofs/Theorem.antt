@@ -28,8 +28,8 @@ use Rattle.promise_recovery.specs.Theorem.{demand-3}
 use Rattle.promise_recovery.specs.Laws.After.{begun-holds, after_holds, accepted-fits, accepted-rows}
 use Rattle.promise_idle.specs.Idle.{zero_row, TakenBy, by_value, lent, Answered, zeros}
 use Rattle.promise_idle.specs.Idle.{WithIdle, none as nothing, call, idle_value, idle_lent}
-use Rattle.promise_idle.specs.Laws.Answer.{answered}
-use Rattle.promise_idle.specs.Laws.PutIn.{zero-untouched, take-size, put-value, put-lent, put-in-fitting}
+use Rattle.promise_idle.proofs.Laws.Answer.{answered}
+use Rattle.promise_idle.proofs.Laws.PutIn.{zero-untouched, take-size, put-value, put-lent, put-in-fitting}
 
 pub take-answer : (s : Setup) → setup_refusal s ≡ 0 → (cs : List Call) (o : Offer) {t : Taken} → TakenBy (after (begun s) cs) o t
     → Answered s (accepted (begun s) cs) (after (begun s) cs) o t

@@ -1,0 +1,3 @@
+-- The theorems, and the lemmas that they cite.
+pub mod Laws
+pub mod Theorem
