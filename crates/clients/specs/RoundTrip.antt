@@ -16,9 +16,9 @@ use Rattle.receive.specs.Answer.{received_number}
 use Rattle.receive.specs.declared.Received.TheVariants.{Done}
 use Rattle.pandrwyg.specs.Exported.{answer_size, bytes_of, answer_bytes, left_bytes, exported_of, exported_bytes}
 use Rattle.promise_recovery.specs.Demand.{little_endian}
-use Rattle.promise_recovery.specs.Promises.{receive-agrees}
-use Rattle.promise_recovery.specs.Laws.Whole.{drawn-bytes-received}
-use Rattle.promise_recovery.specs.Laws.LittleEndian.{little_endian_lem}
+use Rattle.promise_recovery.proofs.Promises.{receive-agrees}
+use Rattle.promise_recovery.proofs.Laws.Whole.{drawn-bytes-received}
+use Rattle.promise_recovery.proofs.Laws.LittleEndian.{little_endian_lem}
 
 module _ (q n k t i : ℕ) (b : List ℕ) (drawn : draw_refusal q n k t i (length b) ≡ 0) where
   abbrev left : List ℕ

@@ -27,7 +27,7 @@ use Rattle.reduce.specs.Reduce.{most_rows}
 use Rattle.receiver.specs.Receiver.{setup}
 use Rattle.promise_recovery.specs.Calls.{Call, begun, accepted}
 use Rattle.promise_recovery.specs.Demand.{Buffer, Listing, Recovery, Reception, Demand}
-use Rattle.promise_recovery.specs.Theorem.{demand-3}
+use Rattle.promise_recovery.proofs.Theorem.{demand-3}
 
 module _ (q n k t : ℕ) (indexes matrices answers : List ℕ)
     (unrefused : batch_refusal q n k t (length indexes) (length matrices) (length answers) ≡ 0) where

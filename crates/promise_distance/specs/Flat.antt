@@ -22,7 +22,7 @@ use Rattle.distance.specs.Laws.DistanceAccepted.{DistanceAccepted, distance-pass
 use Rattle.receiver.specs.Receiver.{setup, used}
 use Rattle.receiver.specs.Laws.Held.{settings-laws}
 use Rattle.promise_recovery.specs.Calls.{Call, begun, after, accepted}
-use Rattle.promise_recovery.specs.Laws.After.{accepted-rows}
+use Rattle.promise_recovery.proofs.Laws.After.{accepted-rows}
 use Rattle.promise_distance.specs.Apart.{measured}
 use Rattle.promise_distance.specs.Theorem.{held-measured, one-call-more, one-call-other}
 use Rattle.promise_distance.specs.Laws.Refused.{number_is, value-is, size-wrong, row-wrong, settings-right}

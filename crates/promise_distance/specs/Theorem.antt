@@ -12,7 +12,7 @@ use Rattle.distance.specs.Distance.{distance_number, distance_value}
 use Rattle.receiver.specs.Receiver.{Setup, setup_refusal}
 use Rattle.receiver.specs.Laws.Held.{settings-laws}
 use Rattle.promise_recovery.specs.Calls.{Call, begun, accepted}
-use Rattle.promise_recovery.specs.Laws.After.{after_holds, accepted-rows}
+use Rattle.promise_recovery.proofs.Laws.After.{after_holds, accepted-rows}
 use Rattle.promise_distance.specs.Apart.{held, measured}
 use Rattle.promise_distance.specs.Laws.Held.{holding-measured}
 use Rattle.promise_distance.specs.Laws.OneCall.{one_apart}

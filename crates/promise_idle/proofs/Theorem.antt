@@ -24,8 +24,8 @@ use Rattle.receiver.specs.declared.Taken.{Taken}
 use Rattle.receiver.specs.declared.TakeAnswer.TheVariants.{Raised, Held, Idle, Refused}
 use Rattle.promise_recovery.specs.Calls.{Call, take_value, take_lent, close, begun, after, accepted}
 use Rattle.promise_recovery.specs.Demand.{Buffer, Answers, Recovery, Demand, told}
-use Rattle.promise_recovery.specs.Theorem.{demand-3}
-use Rattle.promise_recovery.specs.Laws.After.{begun-holds, after_holds, accepted-fits, accepted-rows}
+use Rattle.promise_recovery.proofs.Theorem.{demand-3}
+use Rattle.promise_recovery.proofs.Laws.After.{begun-holds, after_holds, accepted-fits, accepted-rows}
 use Rattle.promise_idle.specs.Idle.{zero_row, TakenBy, by_value, lent, Answered, zeros}
 use Rattle.promise_idle.specs.Idle.{WithIdle, none as nothing, call, idle_value, idle_lent}
 use Rattle.promise_idle.proofs.Laws.Answer.{answered}

@@ -21,10 +21,10 @@ use Rattle.receiver.specs.declared.Taken.{Taken}
 use Rattle.receiver.specs.declared.TakeAnswer.TheVariants.{Refused}
 use Rattle.promise_recovery.specs.Calls.{Call, begun, after, accepted, Reachable, offers, offered, fitting}
 use Rattle.promise_recovery.specs.Demand.{Buffer, Recovery}
-use Rattle.promise_recovery.specs.Theorem.{demand-3}
-use Rattle.promise_recovery.specs.Laws.After.{after-pack, accepted-fits}
-use Rattle.promise_recovery.specs.Laws.Reachable.{reachable-size, after-reachable, reachable-exactly-well-formed, formed}
-use Rattle.promise_recovery.specs.Laws.Whole.{all-offers, among-offers, drawn-rows-recovered}
+use Rattle.promise_recovery.proofs.Theorem.{demand-3}
+use Rattle.promise_recovery.proofs.Laws.After.{after-pack, accepted-fits}
+use Rattle.promise_recovery.proofs.Laws.Reachable.{reachable-size, after-reachable, reachable-exactly-well-formed, formed}
+use Rattle.promise_recovery.proofs.Laws.Whole.{all-offers, among-offers, drawn-rows-recovered}
 use Rattle.promise_idle.specs.Idle.{TakenBy}
 use Rattle.promise_packs.specs.Packs.{repacked, Turns, InRack}
 use Rattle.promise_packs.specs.Laws.Turns.{turns-swap, turns-all, turns-among, offers-foreign}

@@ -25,7 +25,7 @@ use Rattle.receiver.specs.Laws.Held.{settings-laws, holding-size, holding-used, 
 use Rattle.receiver.specs.declared.Receiver.{Receiver}
 use Rattle.promise_recovery.specs.Calls.{Call, begun, after, accepted, Reachable}
 use Rattle.promise_recovery.specs.Flat.{tells, tells_space}
-use Rattle.promise_recovery.specs.Laws.After.{after_holds, accepted-rows}
+use Rattle.promise_recovery.proofs.Laws.After.{after_holds, accepted-rows}
 use Rattle.pool.specs.Pool.{pool_refusal, pooled, pool_of, joint_buffer, common_buffer, pool_number, pool_joint, pool_common}
 use Rattle.pool.specs.declared.Pooled.{Pooled}
 use Rattle.pool.specs.Laws.PoolAccepted.{PoolAccepted, pool-accepted}

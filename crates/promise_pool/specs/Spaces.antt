@@ -29,7 +29,7 @@ use Rattle.receiver.specs.Laws.Sound.{Sound, sound}
 use Rattle.receiver.specs.Laws.Held.{settings-laws, held_kept, held-length}
 use Rattle.receiver.specs.declared.Receiver.{Receiver}
 use Rattle.promise_recovery.specs.Calls.{Reachable}
-use Rattle.promise_recovery.specs.Laws.Reachable.{holding-reachable}
+use Rattle.promise_recovery.proofs.Laws.Reachable.{holding-reachable}
 use Rattle.pool.specs.Pool.{pool_refusal, pooled, pool_of, joint_buffer, common_buffer, pool_number, pool_joint, pool_common}
 use Rattle.pool.specs.declared.Pooled.{Pooled}
 use Rattle.pool.specs.Laws.PoolAccepted.{PoolAccepted, alike-setups, pool-accepted, pool-told}

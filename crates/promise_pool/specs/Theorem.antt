@@ -16,9 +16,9 @@ use Rattle.drawing.specs.Drawing.{drawing}
 use Rattle.receiver.specs.Receiver.{Setup, setup_refusal, no_setup, empty, holding, close_of}
 use Rattle.promise_recovery.specs.Calls.{Call, begun, after, accepted}
 use Rattle.promise_recovery.specs.Demand.{Buffer, Answers, told}
-use Rattle.promise_recovery.specs.Theorem.{demand-3}
-use Rattle.promise_recovery.specs.Laws.After.{after_holds, after-pack, accepted-rows}
-use Rattle.promise_recovery.specs.Laws.Reachable.{reachable-size, after-reachable}
+use Rattle.promise_recovery.proofs.Theorem.{demand-3}
+use Rattle.promise_recovery.proofs.Laws.After.{after_holds, after-pack, accepted-rows}
+use Rattle.promise_recovery.proofs.Laws.Reachable.{reachable-size, after-reachable}
 use Rattle.pool.specs.Pool.{pool_refusal, pool_of, joint_buffer, common_buffer, pool_number, pool_joint, pool_common}
 use Rattle.pool.specs.Laws.PoolAccepted.{pool-told}
 use Rattle.promise_pool.specs.Pooling.{pooled_after, Pooling}

@@ -9,7 +9,7 @@ use Rattle.linear.specs.Span.{Among, SameSpan}
 use Rattle.receiver.specs.Receiver.{Setup, Offer, setup, setup_of, setup_refusal, made, held_rows, is_zero, take_of, take_raised}
 use Rattle.receiver.specs.declared.Receiver.{Receiver}
 use Rattle.promise_recovery.specs.Calls.{Call, take_value, take_lent, begun, after, accepted, Reachable}
-use Rattle.promise_recovery.specs.Laws.Reachable.{reachable-size, after-reachable}
+use Rattle.promise_recovery.proofs.Laws.Reachable.{reachable-size, after-reachable}
 use Rattle.promise_pool.specs.Pooling.{SameSetup, pooled_after}
 use Rattle.promise_trace.specs.Trace.{SameFields}
 use Rattle.promise_trace.specs.Theorem.{setups-equal, equal-exactly, no-trace, unraised-anywhere, any-two, held-exactly}

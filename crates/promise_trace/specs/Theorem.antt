@@ -24,9 +24,9 @@ use Rattle.receiver.specs.Laws.Held.{settings-laws, holding-exactly}
 use Rattle.receiver.proofs.Laws.TakeTold.{take-told}
 use Rattle.receiver.specs.declared.Receiver.{Receiver}
 use Rattle.promise_recovery.specs.Calls.{Call, take_value, take_lent, close, begun, after, accepted, Reachable}
-use Rattle.promise_recovery.specs.Laws.After.{after_holds, after-setup, accepted-rows}
-use Rattle.promise_recovery.specs.Laws.HoldRows.{holding-of-well-formed}
-use Rattle.promise_recovery.specs.Laws.Reachable.{reachable-size, after-reachable, formed}
+use Rattle.promise_recovery.proofs.Laws.After.{after_holds, after-setup, accepted-rows}
+use Rattle.promise_recovery.proofs.Laws.HoldRows.{holding-of-well-formed}
+use Rattle.promise_recovery.proofs.Laws.Reachable.{reachable-size, after-reachable, formed}
 use Rattle.promise_pool.specs.Pooling.{SameSetup, rows_of_both, pooled_after}
 use Rattle.promise_pool.specs.Theorem.{order-1}
 use Rattle.promise_pool.specs.Laws.TwoLists.{accepted-append}

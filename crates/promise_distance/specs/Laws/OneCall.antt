@@ -16,7 +16,7 @@ use Rattle.spaces.proofs.Laws.Distance.{distance-zero}
 use Rattle.receiver.specs.Receiver.{Setup, setup_refusal, take_of, take_number, lent_answer}
 use Rattle.receiver.specs.Laws.Held.{settings-laws}
 use Rattle.promise_recovery.specs.Calls.{Call, take_value, take_lent, close, begun, accepted}
-use Rattle.promise_recovery.specs.Laws.After.{accepted-rows}
+use Rattle.promise_recovery.proofs.Laws.After.{accepted-rows}
 use Rattle.promise_pool.specs.Laws.TwoLists.{accepted-append}
 use Rattle.promise_distance.specs.Laws.Rows.{row-dropped}
 

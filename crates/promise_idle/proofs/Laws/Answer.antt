@@ -23,7 +23,7 @@ use Rattle.receiver.specs.declared.Receiver.{Receiver}
 use Rattle.receiver.specs.declared.Taken.{Taken}
 use Rattle.receiver.specs.declared.TakeAnswer.{TakeAnswer}
 use Rattle.receiver.specs.declared.TakeAnswer.TheVariants.{Raised, Held, Idle, Refused}
-use Rattle.promise_recovery.specs.Laws.HoldRows.{well-formed-holding, take-fits, take-tells, take-taken, take-kept}
+use Rattle.promise_recovery.proofs.Laws.HoldRows.{well-formed-holding, take-fits, take-tells, take-taken, take-kept}
 use Rattle.promise_idle.specs.Idle.{zero_row, Answered}
 
 -- the answers by their tests

@@ -15,7 +15,7 @@ use Rattle.receiver.specs.declared.Receiver.{Receiver}
 use Rattle.receiver.specs.declared.Taken.{Taken}
 use Rattle.receiver.specs.declared.TakeAnswer.TheVariants.{Refused}
 use Rattle.promise_recovery.specs.Calls.{Reachable}
-use Rattle.promise_recovery.specs.Laws.Reachable.{reachable-exactly-well-formed, forged, formed}
+use Rattle.promise_recovery.proofs.Laws.Reachable.{reachable-exactly-well-formed, forged, formed}
 use Rattle.promise_idle.specs.Idle.{TakenBy, by_value, lent}
 
 module _ (r : Receiver) (size : length r.entries ≡ 256) (o : Offer) where

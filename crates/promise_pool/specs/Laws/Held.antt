@@ -16,7 +16,7 @@ use Rattle.spaces.specs.Spaces.{Within}
 use Rattle.spaces.specs.Laws.Joint.{within-each, first-within, last_within}
 use Rattle.receiver.specs.Receiver.{Setup, setup_refusal, holding}
 use Rattle.receiver.specs.Laws.Held.{settings-laws, holding-rows, holding-exactly}
-use Rattle.promise_recovery.specs.Laws.HoldRows.{well-formed-holding}
+use Rattle.promise_recovery.proofs.Laws.HoldRows.{well-formed-holding}
 use Rattle.pool.specs.Pool.{alike, pool_refusal, pooled, pool_of}
 use Rattle.pool.specs.declared.Pooled.{Pooled}
 use Rattle.pool.specs.Laws.PoolAccepted.{pool-unrefused}

@@ -15,7 +15,7 @@ use Rattle.refusal.specs.Laws.First.{test-refused, test-passed, kept}
 use Rattle.receiver.specs.Receiver.{no_setup, empty}
 use Rattle.receiver.specs.declared.Receiver.{Receiver}
 use Rattle.promise_recovery.specs.Calls.{Reachable}
-use Rattle.promise_recovery.specs.Laws.Reachable.{forged, formed}
+use Rattle.promise_recovery.proofs.Laws.Reachable.{forged, formed}
 use Rattle.pool.specs.Pool.{alike, pool_refusal, pool_of, joint_buffer, common_buffer, pool_number, pool_joint, pool_common}
 use Rattle.pool.specs.declared.Pooled.{Pooled}
 use Rattle.promise_pool.specs.Pooling.{SameSetup}

@@ -7,7 +7,7 @@ use Rattle.std.proofs.Common.{ap, ap₂, sym, ◌∙◌}
 use Rattle.basics.specs.Choice.{pick}
 use Rattle.receiver.specs.Receiver.{Setup, Offer, setup_refusal}
 use Rattle.promise_recovery.specs.Calls.{Call, take_value, take_lent, close, begun, accepted, offered, fits, fitting}
-use Rattle.promise_recovery.specs.Laws.After.{accepted-fits}
+use Rattle.promise_recovery.proofs.Laws.After.{accepted-fits}
 
 offered-append : (cs ds : List Call) → offered (cs ++ ds) ≡ offered cs ++ offered ds
 unfolding offered

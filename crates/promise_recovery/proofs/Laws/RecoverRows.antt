@@ -35,11 +35,11 @@ use Rattle.pandrwyg.specs.Exported.{answer_size, answer_bytes, left_bytes, expor
 use Rattle.pandrwyg.specs.Laws.ExportedAccepted.{exported-unrefused, exported-told}
 use Rattle.promise_recovery.specs.Calls.{Call, begun, after, accepted}
 use Rattle.promise_recovery.specs.Demand.{told, read, Answers, Recovery, Reception}
-use Rattle.promise_recovery.specs.Laws.HoldRows.{well-formed-holding}
-use Rattle.promise_recovery.specs.Laws.After.{after_holds, accepted-rows}
-use Rattle.promise_recovery.specs.Laws.LittleEndian.{read-bytes}
-use Rattle.promise_recovery.specs.Laws.Space.{within-rows, space-typed, space-fewer, space-whole-or-fewer, space-answers}
-use Rattle.promise_recovery.specs.Laws.Space.{vector-fits}
+use Rattle.promise_recovery.proofs.Laws.HoldRows.{well-formed-holding}
+use Rattle.promise_recovery.proofs.Laws.After.{after_holds, accepted-rows}
+use Rattle.promise_recovery.proofs.Laws.LittleEndian.{read-bytes}
+use Rattle.promise_recovery.proofs.Laws.Space.{within-rows, space-typed, space-fewer, space-whole-or-fewer, space-answers}
+use Rattle.promise_recovery.proofs.Laws.Space.{vector-fits}
 
 module _ (q n k t : ℕ) (settings : settings_refusal q n k ≡ 0) (known : is_numbering t ≡ true) where
   law : Laws q

@@ -17,10 +17,10 @@ use Rattle.receiver.specs.Laws.Sound.{sound}
 use Rattle.receiver.specs.Laws.Held.{holding-size}
 use Rattle.receiver.specs.declared.Receiver.{Receiver}
 use Rattle.promise_recovery.specs.Calls.{Call, take_value, begun, after, accepted, Reachable, started, taken, offered, fitting}
-use Rattle.promise_recovery.specs.Laws.FittingRows.{fitting-rows}
-use Rattle.promise_recovery.specs.Laws.HoldRows.{well-formed-holding, holding-of-well-formed, take-fits, take-taken}
-use Rattle.promise_recovery.specs.Laws.Course.{course}
-use Rattle.promise_recovery.specs.Laws.After.{begun-holds, after_holds, accepted-rows}
+use Rattle.promise_recovery.proofs.Laws.FittingRows.{fitting-rows}
+use Rattle.promise_recovery.proofs.Laws.HoldRows.{well-formed-holding, holding-of-well-formed, take-fits, take-taken}
+use Rattle.promise_recovery.proofs.Laws.Course.{course}
+use Rattle.promise_recovery.proofs.Laws.After.{begun-holds, after_holds, accepted-rows}
 
 -- r holds some rows, under accepted settings
 pub record Holds (r : Receiver) : Type 0 where

@@ -31,9 +31,9 @@ use Rattle.receiver.specs.Receiver.{Setup, Offer, setup, offer, close_of}
 use Rattle.receiver.specs.Laws.Held.{settings-laws}
 use Rattle.promise_recovery.specs.Calls.{Call, begun, take_value, after, accepted, offers, offered, fits, fitting}
 use Rattle.promise_recovery.specs.Demand.{Buffer}
-use Rattle.promise_recovery.specs.Laws.FittingRows.{fits-own, fits-row, own-fits}
-use Rattle.promise_recovery.specs.Laws.After.{accepted-fits, accepted-rows}
-use Rattle.promise_recovery.specs.Theorem.{demand-3}
+use Rattle.promise_recovery.proofs.Laws.FittingRows.{fits-own, fits-row, own-fits}
+use Rattle.promise_recovery.proofs.Laws.After.{accepted-fits, accepted-rows}
+use Rattle.promise_recovery.proofs.Theorem.{demand-3}
 
 -- a row that is offered and fits stands among the fitting ones
 among-fitting : (s : Setup) {o : Offer} → o.pack ≡ s.pack → Row s.q s.n o.row → {os : List Offer} → Among o os

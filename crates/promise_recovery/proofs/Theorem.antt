@@ -15,8 +15,8 @@ use Rattle.reduce.specs.Reduce.{most_rows}
 use Rattle.receiver.specs.Receiver.{Setup, setup_refusal}
 use Rattle.promise_recovery.specs.Calls.{Call, begun, accepted}
 use Rattle.promise_recovery.specs.Demand.{Buffer, Listing, Recovery, Reception, Demand}
-use Rattle.promise_recovery.specs.Laws.After.{accepted-fits, unforged}
-use Rattle.promise_recovery.specs.Laws.RecoverRows.{recovered, received}
+use Rattle.promise_recovery.proofs.Laws.After.{accepted-fits, unforged}
+use Rattle.promise_recovery.proofs.Laws.RecoverRows.{recovered, received}
 
 module _ (s : Setup) (t : ℕ) (settings : setup_refusal s ≡ 0) (known : is_numbering t ≡ true) (D : Drawing)
     (given : Draws s.q s.n s.k t D) where

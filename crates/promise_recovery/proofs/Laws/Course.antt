@@ -22,8 +22,8 @@ use Rattle.receiver.specs.declared.Taken.{Taken}
 use Rattle.receive.specs.declared.Received.TheVariants.{Done, TooFew, TooMany}
 use Rattle.promise_recovery.specs.Calls.{Call, take_value, take_lent, close, after, accepted, Unforged, none as nothing, more as further}
 use Rattle.promise_recovery.specs.Calls.{offered, fits, fitting}
-use Rattle.promise_recovery.specs.Laws.FittingRows.{fits-own, fits-row}
-use Rattle.promise_recovery.specs.Laws.HoldRows.{well-formed-holding, take-fits, take-misfits, take-taken, take-kept}
+use Rattle.promise_recovery.proofs.Laws.FittingRows.{fits-own, fits-row}
+use Rattle.promise_recovery.proofs.Laws.HoldRows.{well-formed-holding, take-fits, take-misfits, take-taken, take-kept}
 
 pub record Course (s : Setup) (rows : List (List ℕ)) (cs : List Call) : Type 0 where
   pub left : after (holding s rows) cs ≡ holding s (rows ++ fitting s (offered cs))

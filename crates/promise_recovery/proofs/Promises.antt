@@ -43,8 +43,8 @@ use Rattle.pandrwyg.specs.Exported.{answer_size, exported_of}
 use Rattle.pandrwyg.specs.Laws.ExportedAccepted.{exported-receive}
 use Rattle.promise_recovery.specs.Calls.{Call, begun, after, accepted}
 use Rattle.promise_recovery.specs.Demand.{told}
-use Rattle.promise_recovery.specs.Laws.After.{accepted-rows}
-use Rattle.promise_recovery.specs.Laws.RecoverRows.{receive-rows, close-after}
+use Rattle.promise_recovery.proofs.Laws.After.{accepted-rows}
+use Rattle.promise_recovery.proofs.Laws.RecoverRows.{receive-rows, close-after}
 
 pub reduced-matrix-exactly : (q : ℕ) → Laws q → (n : ℕ) (rows : List (List ℕ)) → All (Row q n) rows
     → (d : ℕ) (m : List ℕ)

@@ -16,8 +16,8 @@ use Rattle.linear.specs.Laws.ReducedOf.{dimension-has}
 use Rattle.receiver.specs.Receiver.{Setup, setup_of, setup_refusal, start_of, holding}
 use Rattle.receiver.specs.Laws.Held.{settings-laws, holding-none}
 use Rattle.promise_recovery.specs.Calls.{Call, begun, after, accepted, Unforged, offered, fitting}
-use Rattle.promise_recovery.specs.Laws.FittingRows.{fitting-rows}
-use Rattle.promise_recovery.specs.Laws.Course.{Course, course}
+use Rattle.promise_recovery.proofs.Laws.FittingRows.{fitting-rows}
+use Rattle.promise_recovery.proofs.Laws.Course.{Course, course}
 
 module _ (s : Setup) (settings : setup_refusal s ≡ 0) where
   pub begun-holds : begun s ≡ holding s []

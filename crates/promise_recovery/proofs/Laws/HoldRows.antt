@@ -30,7 +30,7 @@ use Rattle.receiver.specs.declared.Receiver.{Receiver}
 use Rattle.receiver.specs.declared.Taken.{Taken}
 use Rattle.receiver.specs.declared.TakeAnswer.TheVariants.{Refused}
 use Rattle.promise_recovery.specs.Calls.{fits}
-use Rattle.promise_recovery.specs.Laws.FittingRows.{own-fits}
+use Rattle.promise_recovery.proofs.Laws.FittingRows.{own-fits}
 
 pub holding-of-well-formed : (r : Receiver) → length r.entries ≡ 256 → well_formed r ≡ true
     → (r ≡ holding (setup_of r) (held_rows r)) × All (Row r.q r.n) (held_rows r)
