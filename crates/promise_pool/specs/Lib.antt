@@ -1,6 +1,4 @@
 -- promise_pool: what pooling two receivers promises.
 pub mod Pooling
 pub mod Spaces
-pub mod Theorem
-pub mod Flat
 pub mod Laws

@@ -1,5 +1,2 @@
 -- promise_trace: of the rows that it accepted, a receiver keeps the span and nothing else.
 pub mod Trace
-pub mod Theorem
-pub mod Flat
-pub mod Laws

@@ -1,7 +1,6 @@
 -- Order 9: the theorems. Each is about lists of calls from a fresh Start with accepted settings, as demand 3 reads them: Take in either form
 -- and Close, refused ones and rows of other packs included. Nothing is said of what the rows are mixed from.
---   equal-exactly  == two lists, from the same Start, leave equal receivers exactly when the rows that they accept have the same span
---   no-trace       == so where each row that isn't zero, and that one accepts, is one that the other accepts
+--   no-trace       == two lists, from the same Start, leave equal receivers where each row that isn't zero, and that one accepts, is one that the other accepts
 --   unraised-anywhere == a Take that does not raise the dimension where it is put in, so that of a row that is refused there, or idle,
 --                     leaves no trace either, in either form
 --   any-two        == two lists, each from a Start of its own, leave equal receivers exactly when q, n, k and the packs are the same, and
@@ -24,21 +23,15 @@ use Rattle.receiver.specs.Laws.Held.{settings-laws, holding-exactly}
 use Rattle.receiver.proofs.Laws.TakeTold.{take-told}
 use Rattle.receiver.specs.declared.Receiver.{Receiver}
 use Rattle.promise_recovery.specs.Calls.{Call, take_value, take_lent, close, begun, after, accepted, Reachable}
-use Rattle.promise_recovery.proofs.Laws.After.{after_holds, after-setup, accepted-rows}
+use Rattle.promise_recovery.proofs.Laws.After.{after-setup, accepted-rows}
 use Rattle.promise_recovery.proofs.Laws.HoldRows.{holding-of-well-formed}
 use Rattle.promise_recovery.proofs.Laws.Reachable.{reachable-size, after-reachable, formed}
 use Rattle.promise_pool.specs.Pooling.{SameSetup, rows_of_both, pooled_after}
-use Rattle.promise_pool.specs.Theorem.{order-1}
+use Rattle.promise_pool.proofs.Theorem.{order-1}
 use Rattle.promise_pool.specs.Laws.TwoLists.{accepted-append}
 use Rattle.promise_trace.specs.Trace.{Covered}
-use Rattle.promise_trace.specs.Laws.Spanned.{covered_same, covered-swap}
-
-pub equal-exactly : (s : Setup) → setup_refusal s ≡ 0 → (cs ds : List Call)
-    → (after (begun s) cs ≡ after (begun s) ds) ↔ SameSpan s.q s.n (accepted (begun s) cs) (accepted (begun s) ds)
-equal-exactly s settings cs ds =
-    subst₂ (λ a b. (a ≡ b) ↔ SameSpan s.q s.n (accepted (begun s) cs) (accepted (begun s) ds)) (sym (after_holds s settings cs))
-    (sym (after_holds s settings ds))
-    (holding-exactly s settings (accepted (begun s) cs) (accepted (begun s) ds) (accepted-rows s settings cs) (accepted-rows s settings ds))
+use Rattle.promise_trace.proofs.Equal.{equal-exactly}
+use Rattle.promise_trace.proofs.Spanned.{covered_same, covered-swap}
 
 pub no-trace : (s : Setup) → setup_refusal s ≡ 0 → (cs ds : List Call)
     → Covered (accepted (begun s) cs) (accepted (begun s) ds)

@@ -1,35 +1,19 @@
 -- Order 9 once more, as one flat statement under the order's words.
---   fields-equal == two receivers are equal exactly when they are equal in every field
 --   order-9      == "Take two receivers started with the same settings and pack, .."
 -- Assumes nothing.
 use Rattle.std.specs.Prelude.{◌≡◌, false, List, ◌∷◌, ◌++◌, ◌↔◌, ℕ, length}
-use Rattle.std.proofs.Common.{ap, ◌∙◌}
 use Rattle.settings.specs.Settings.{settings_refusal}
 use Rattle.linear.specs.Span.{Among, SameSpan}
-use Rattle.receiver.specs.Receiver.{Setup, Offer, setup, setup_of, setup_refusal, made, held_rows, is_zero, take_of, take_raised}
+use Rattle.receiver.specs.Receiver.{Setup, Offer, setup, setup_refusal, held_rows, is_zero, take_of, take_raised}
 use Rattle.receiver.specs.declared.Receiver.{Receiver}
 use Rattle.promise_recovery.specs.Calls.{Call, take_value, take_lent, begun, after, accepted, Reachable}
 use Rattle.promise_recovery.proofs.Laws.Reachable.{reachable-size, after-reachable}
 use Rattle.promise_pool.specs.Pooling.{SameSetup, pooled_after}
 use Rattle.promise_trace.specs.Trace.{SameFields}
-use Rattle.promise_trace.specs.Theorem.{setups-equal, equal-exactly, no-trace, unraised-anywhere, any-two, held-exactly}
-use Rattle.promise_trace.specs.Theorem.{pooled-exactly, pooled-no-trace, pooled-either-way}
-
-pub fields-equal : (a b : Receiver) → (a ≡ b) ↔ SameFields a b
-fields-equal a b = (
-  λ e. (
-    ap (λ r. r.entries) e,
-    ap (λ r. r.q) e,
-    ap (λ r. r.n) e,
-    ap (λ r. r.k) e,
-    ap (λ r. r.dimension) e,
-    ap (λ r. r.pack) e,
-  ),
-  λ x.
-      ap (λ s. made s a.dimension a.entries) (setups-equal (setup_of a) (setup_of b) x.1 x.2 x.3 x.5)
-      ∙ ap (λ d. made (setup_of b) d a.entries) x.4
-      ∙ ap (made (setup_of b) b.dimension) x.0,
-)
+use Rattle.promise_trace.proofs.Equal.{equal-exactly}
+use Rattle.promise_trace.proofs.Fields.{fields-equal}
+use Rattle.promise_trace.proofs.Theorem.{no-trace, unraised-anywhere, any-two, held-exactly}
+use Rattle.promise_trace.proofs.Theorem.{pooled-exactly, pooled-no-trace, pooled-either-way}
 
 pub order-9 :
     -- (Two receivers are equal exactly when they are equal in every field.)

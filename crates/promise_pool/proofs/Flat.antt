@@ -32,7 +32,7 @@ use Rattle.pool.specs.Laws.PoolAccepted.{PoolAccepted, pool-accepted}
 use Rattle.pool.specs.Laws.Pooling.{first-held, second-held}
 use Rattle.promise_pool.specs.Pooling.{SameSetup, pooled_after}
 use Rattle.promise_pool.specs.Spaces.{joint-exactly, pool-spaces, pool-reachable}
-use Rattle.promise_pool.specs.Theorem.{order-1, packs-apart}
+use Rattle.promise_pool.proofs.Theorem.{order-1, packs-apart}
 use Rattle.promise_pool.specs.Laws.Carried.{joint-carried, common-carried}
 use Rattle.promise_pool.specs.Laws.Held.{pool-none}
 use Rattle.promise_pool.specs.Laws.Refused.{first-forged, second-forged, setups-differ, buffers-wrong, none-applies}

@@ -1,0 +1,2 @@
+-- Order 10, flat.
+pub mod Flat

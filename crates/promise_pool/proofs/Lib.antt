@@ -1,0 +1,3 @@
+-- Order 1: its theorems.
+pub mod Theorem
+pub mod Flat

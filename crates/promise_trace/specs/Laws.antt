@@ -1,2 +1,0 @@
--- Lemmas; no part of the meaning.
-pub mod Spanned
