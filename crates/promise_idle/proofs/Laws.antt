@@ -1,3 +1,4 @@
 -- Lemmas; no part of the meaning.
 pub mod Answer
 pub mod PutIn
+pub mod PutOne

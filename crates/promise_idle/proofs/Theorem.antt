@@ -22,14 +22,15 @@ use Rattle.receiver.specs.Laws.Held.{settings-laws, holding-size}
 use Rattle.receiver.specs.declared.Receiver.{Receiver}
 use Rattle.receiver.specs.declared.Taken.{Taken}
 use Rattle.receiver.specs.declared.TakeAnswer.TheVariants.{Raised, Held, Idle, Refused}
-use Rattle.promise_recovery.specs.Calls.{Call, take_value, take_lent, close, begun, after, accepted}
+use Rattle.promise_recovery.specs.Calls.{Call, take_value, take_lent, begun, after, accepted}
 use Rattle.promise_recovery.specs.Demand.{Buffer, Answers, Recovery, Demand, told}
 use Rattle.promise_recovery.proofs.Theorem.{demand-3}
 use Rattle.promise_recovery.proofs.Laws.After.{begun-holds, after_holds, accepted-fits, accepted-rows}
 use Rattle.promise_idle.specs.Idle.{zero_row, TakenBy, by_value, lent, Answered, zeros}
-use Rattle.promise_idle.specs.Idle.{WithIdle, none as nothing, call, idle_value, idle_lent}
+use Rattle.promise_idle.specs.Idle.{WithIdle}
 use Rattle.promise_idle.proofs.Laws.Answer.{answered}
-use Rattle.promise_idle.proofs.Laws.PutIn.{zero-untouched, take-size, put-value, put-lent, put-in-fitting}
+use Rattle.promise_idle.proofs.Laws.PutIn.{unharmed, put-in-fitting}
+use Rattle.promise_idle.proofs.Laws.PutOne.{put-value, put-lent}
 
 pub take-answer : (s : Setup) → setup_refusal s ≡ 0 → (cs : List Call) (o : Offer) {t : Taken} → TakenBy (after (begun s) cs) o t
     → Answered s (accepted (begun s) cs) (after (begun s) cs) o t
@@ -61,13 +62,7 @@ zeros-idle s settings cs =
 
 pub zeros-unharmed : {n : ℕ} (r : Receiver) → length r.entries ≡ 256 → {cs ds : List Call} → WithIdle n cs ds
     → after r ds ≡ after r cs
-unfolding after
-zeros-unharmed r size nothing = refl
-zeros-unharmed r size (call (take_value o) w) = zeros-unharmed (take_of r o).receiver (take-size r size o) w
-zeros-unharmed r size (call (take_lent o) w) = zeros-unharmed (take_of r o).receiver (take-size r size o) w
-zeros-unharmed r size (call (close t) w) = zeros-unharmed r size w
-zeros-unharmed {n} r size (idle_value {ds = ds} pack w) = ap (λ x. after x ds) (zero-untouched r size pack n) ∙ zeros-unharmed r size w
-zeros-unharmed {n} r size (idle_lent {ds = ds} pack w) = ap (λ x. after x ds) (zero-untouched r size pack n) ∙ zeros-unharmed r size w
+zeros-unharmed r size w = unharmed r size w
 
 pub zeros-anywhere : (r : Receiver) → length r.entries ≡ 256 → (pack n : ℕ) (cs ds : List Call)
     → (after r (cs ++ (take_value (zeros pack n) ∷ ds)) ≡ after r (cs ++ ds))

@@ -1,7 +1,7 @@
 -- Zero rows put into a list of calls; no part of the meaning.
 --   zero-untouched  == a zero row, of whatever length and for whatever pack, leaves any receiver
 --   take-size       == Take hands back a receiver of 256 entries
---   put-value, put-lent == a zero row put in at one place
+--   unharmed        == from any receiver on, a list of calls with zero rows put in leaves what the list leaves
 --   put-in-fitting  == what holds of the zero row and of the rows that fit holds with zero rows put in
 -- Assumes nothing.
 use Rattle.std.specs.Prelude.{◌≡◌, refl, Bool, true, false, ◌&&◌, List, [], ◌∷◌, ◌++◌, ℕ}
@@ -25,7 +25,7 @@ use Rattle.receiver.specs.declared.Receiver.{Receiver}
 use Rattle.receiver.specs.declared.Taken.{Taken}
 use Rattle.receiver.specs.declared.TakeAnswer.{TakeAnswer}
 use Rattle.receiver.specs.declared.TakeAnswer.TheVariants.{Raised, Held, Idle, Refused}
-use Rattle.promise_recovery.specs.Calls.{Call, take_value, take_lent, close, offered, fits, fitting}
+use Rattle.promise_recovery.specs.Calls.{Call, after, take_value, take_lent, close, offered, fits, fitting}
 use Rattle.promise_idle.specs.Idle.{zero_row, zeros, WithIdle, none as nothing, call, idle_value, idle_lent}
 
 idle-unraised : (a : TakeAnswer) → take_idle a ≡ true → take_raised a ≡ false
@@ -69,17 +69,15 @@ module _ (r : Receiver) (size : length r.entries ≡ 256) where
           ∙ holding-size (setup_of r) s.settings (held_rows r ++ (o.row ∷ []))
           (all_append (held_kept r size s).rows (more (accepted-row r o a) none))
 
-same-calls : (n : ℕ) (cs : List Call) → WithIdle n cs cs
-same-calls n [] = nothing
-same-calls n (c ∷ cs) = call c (same-calls n cs)
-
-pub put-value : (pack n : ℕ) (cs ds : List Call) → WithIdle n (cs ++ ds) (cs ++ (take_value (zeros pack n) ∷ ds))
-put-value pack n [] ds = idle_value pack (same-calls n ds)
-put-value pack n (c ∷ cs) ds = call c (put-value pack n cs ds)
-
-pub put-lent : (pack n : ℕ) (cs ds : List Call) → WithIdle n (cs ++ ds) (cs ++ (take_lent (zeros pack n) ∷ ds))
-put-lent pack n [] ds = idle_lent pack (same-calls n ds)
-put-lent pack n (c ∷ cs) ds = call c (put-lent pack n cs ds)
+pub unharmed : {n : ℕ} (r : Receiver) → length r.entries ≡ 256 → {cs ds : List Call} → WithIdle n cs ds
+    → after r ds ≡ after r cs
+unfolding after
+unharmed r size nothing = refl
+unharmed r size (call (take_value o) w) = unharmed (take_of r o).receiver (take-size r size o) w
+unharmed r size (call (take_lent o) w) = unharmed (take_of r o).receiver (take-size r size o) w
+unharmed r size (call (close t) w) = unharmed r size w
+unharmed {n} r size (idle_value {ds = ds} pack w) = ap (λ x. after x ds) (zero-untouched r size pack n) ∙ unharmed r size w
+unharmed {n} r size (idle_lent {ds = ds} pack w) = ap (λ x. after x ds) (zero-untouched r size pack n) ∙ unharmed r size w
 
 -- a row before others, where it fits
 before-all : (P : List ℕ → Type 0) (b : Bool) (row : List ℕ) (xs ys : List (List ℕ)) → (All P xs → All P ys)
