@@ -405,7 +405,7 @@ static pid_t start_on_line(const char *text, int out)
 
 /*
  * Reads some of a listing and closes the pipe. The next write fails, also where the program is started with SIGPIPE at its default, since its
- * start-up ignores that signal; and it ends by itself.
+ * start-up ignores that signal; and it ends by itself, with status 0.
  */
 static void closed_output(const char *text, const char *whole, size_t most, bool ignored)
 {
@@ -417,7 +417,7 @@ static void closed_output(const char *text, const char *whole, size_t most, bool
     close(from[1]);
     collect_up_to(from[0], most);
     int status = program_wait(child);
-    check(WIFEXITED(status), "closed after %zu bytes: ends with %#x", most, status);
+    check(WIFEXITED(status) && WEXITSTATUS(status) == 0, "closed after %zu bytes: ends with %#x", most, status);
     check(output.length == most && memcmp(output.text, whole, most) == 0, "closed after %zu bytes: other output", most);
 }
 
