@@ -2,8 +2,14 @@
 --   refuse_unless b r == no refusal where the test b holds, else r
 --   first rs         == "The first that applies, in the order given, is returned": the first that is not 0, or 0
 --   unless_refused r done kept == what is answered or left: `done` where r is no refusal, else `kept`
+--   number, named    == the number of a refusal; the first refusal with a number, Pack where none has it
+--   answered r done  == what a call answers: `done` where r is no refusal, else the refusal with the number r
+--   number_of        == the number of an answer: its refusal's, or 0
 -- Assumes nothing.
-use Rattle.std.specs.Prelude.{Bool, List, [], ◌∷◌, ℕ, eqb}
+use Rattle.std.specs.Prelude.{Bool, List, [], ◌∷◌, ℕ, eqb, Result, Ok, Err}
+use Rattle.refusal.specs.declared.Refusal.{Refusal}
+use Rattle.refusal.specs.declared.Refusal.TheVariants.{FieldSize, Range, Count, Length, Index, Entry, NotReduced, TooFew, TooMany}
+use Rattle.refusal.specs.declared.Refusal.TheVariants.{Numbering, Line, Listing, RowCount, Receiver, Mismatch, Pack}
 use Rattle.basics.specs.Choice.{pick}
 
 -- q is none of the field sizes
@@ -81,3 +87,41 @@ first (refusal ∷ rest) = pick (eqb refusal 0) (first rest) refusal
 
 unfoldable pub unless_refused {ℓ} : {A : Type ℓ} → ℕ → A → A → A
 unless_refused refusal done kept = pick (eqb refusal 0) done kept
+
+abbrev pub number : Refusal → ℕ
+number FieldSize = field_size_refusal
+number Range = range_refusal
+number Count = count_refusal
+number Length = length_refusal
+number Index = index_refusal
+number Entry = entry_refusal
+number NotReduced = not_reduced_refusal
+number TooFew = too_few_refusal
+number TooMany = too_many_refusal
+number Numbering = numbering_refusal
+number Line = line_refusal
+number Listing = listing_refusal
+number RowCount = row_count_refusal
+number Receiver = receiver_refusal
+number Mismatch = mismatch_refusal
+number Pack = pack_refusal
+
+-- every refusal
+abbrev pub refusals : List Refusal
+refusals =
+    FieldSize ∷ Range ∷ Count ∷ Length ∷ Index ∷ Entry ∷ NotReduced ∷ TooFew ∷ TooMany ∷ Numbering ∷ Line ∷ Listing ∷ RowCount ∷ Receiver
+    ∷ Mismatch ∷ Pack ∷ []
+
+unfoldable pub among : ℕ → List Refusal → Refusal
+among n [] = Pack
+among n (refusal ∷ rest) = pick (eqb (number refusal) n) refusal (among n rest)
+
+unfoldable pub named : ℕ → Refusal
+named n = among n refusals
+
+abbrev pub answered : {A : Type 0} → ℕ → A → Result A Refusal
+answered refusal done = unless_refused refusal (Ok done) (Err (named refusal))
+
+abbrev pub number_of : {A : Type 0} → Result A Refusal → ℕ
+number_of (Ok done) = 0
+number_of (Err refusal) = number refusal

@@ -1,34 +1,62 @@
-// The refusals of document 01 by name. specs/Refusal.antt has each number's sentence; a call's contract cites the name there.
+// The refusals of document 01 by name. specs/Refusal.antt has each number's sentence; a call's contract cites the number there.
 #![tactic(auto)]
 
-pub const FIELD_SIZE: u32 = 1;
+ghost use Rattle.std.specs.Prelude.{◌≡◌};
+ghost use Rattle.refusal.specs.Refusal.{number, number_of};
 
-pub const RANGE: u32 = 2;
+// Why a call refuses.
+#[derive(Clone, Copy, Debug, PartialEq, Eq)]
+pub enum Refusal {
+    FieldSize,
+    Range,
+    Count,
+    Length,
+    Index,
+    Entry,
+    NotReduced,
+    TooFew,
+    TooMany,
+    Numbering,
+    Line,
+    Listing,
+    RowCount,
+    Receiver,
+    Mismatch,
+    Pack,
+}
 
-pub const COUNT: u32 = 3;
+// The number of a refusal. 15 is retired by order 4.
+impl From<Refusal> for u32 {
+    ghost from_gives = { λ r n. n ≡ number r };
 
-pub const LENGTH: u32 = 4;
+    fn from(refusal: Refusal) -> u32 {
+        match refusal {
+            Refusal::FieldSize => 1,
+            Refusal::Range => 2,
+            Refusal::Count => 3,
+            Refusal::Length => 4,
+            Refusal::Index => 5,
+            Refusal::Entry => 6,
+            Refusal::NotReduced => 7,
+            Refusal::TooFew => 8,
+            Refusal::TooMany => 9,
+            Refusal::Numbering => 10,
+            Refusal::Line => 11,
+            Refusal::Listing => 12,
+            Refusal::RowCount => 13,
+            Refusal::Receiver => 14,
+            Refusal::Mismatch => 16,
+            Refusal::Pack => 17,
+        }
+    }
+}
 
-pub const INDEX: u32 = 5;
-
-pub const ENTRY: u32 = 6;
-
-pub const NOT_REDUCED: u32 = 7;
-
-pub const TOO_FEW: u32 = 8;
-
-pub const TOO_MANY: u32 = 9;
-
-pub const NUMBERING: u32 = 10;
-
-pub const LINE: u32 = 11;
-
-pub const LISTING: u32 = 12;
-
-pub const ROW_COUNT: u32 = 13;
-
-pub const RECEIVER: u32 = 14;
-
-pub const MISMATCH: u32 = 16;
-
-pub const PACK: u32 = 17;
+// The number of a call's refusal; 0 where it is met.
+pub fn number_of(done: Result<(), Refusal>) -> u32
+    ensures { result ≡ number_of done }
+{
+    match done {
+        Ok(()) => 0,
+        Err(refusal) => refusal.into(),
+    }
+}

@@ -8,12 +8,11 @@
 --   count_of q n k     == what Count answers
 --   count_number, count_value == document 01's refusal number and count of each case of the answer
 -- Assumes nothing.
-use Rattle.std.specs.Prelude.{Bool, ◌&&◌, [], ◌∷◌, ℕ, leb}
-use Rattle.refusal.specs.Refusal.{field_size_refusal, range_refusal, count_refusal, listing_refusal, refuse_unless, first, unless_refused}
+use Rattle.std.specs.Prelude.{Bool, ◌&&◌, [], ◌∷◌, ℕ, leb, Result, Ok, Err}
+use Rattle.refusal.specs.Refusal.{field_size_refusal, range_refusal, count_refusal, listing_refusal, refuse_unless, first, number, answered}
 use Rattle.field.specs.Field.{is_field_size}
 use Rattle.counts.specs.Gaussian.{gaussian, greatest_count}
-use Rattle.settings.specs.declared.Counted.{Counted}
-use Rattle.settings.specs.declared.Counted.TheVariants.{Count, Refused}
+use Rattle.refusal.specs.declared.Refusal.{Refusal}
 
 unfoldable pub row_length_ok : ℕ → Bool
 row_length_ok n = leb 1 n && leb n 16
@@ -38,13 +37,13 @@ greatest_listing = 65536
 unfoldable pub list_refusal : ℕ → ℕ → ℕ → ℕ
 list_refusal q n k = first (settings_refusal q n k ∷ refuse_unless (leb (gaussian q n k) greatest_listing) listing_refusal ∷ [])
 
-unfoldable pub count_of : ℕ → ℕ → ℕ → Counted
-count_of q n k = unless_refused (settings_refusal q n k) (Count (gaussian q n k)) (Refused (settings_refusal q n k))
+unfoldable pub count_of : ℕ → ℕ → ℕ → Result ℕ Refusal
+count_of q n k = answered (settings_refusal q n k) (gaussian q n k)
 
-abbrev pub count_number : Counted → ℕ
-count_number (Count n) = 0
-count_number (Refused r) = r
+abbrev pub count_number : Result ℕ Refusal → ℕ
+count_number (Ok n) = 0
+count_number (Err r) = number r
 
-abbrev pub count_value : Counted → ℕ
-count_value (Count n) = n
-count_value (Refused r) = 0
+abbrev pub count_value : Result ℕ Refusal → ℕ
+count_value (Ok n) = n
+count_value (Err r) = 0

@@ -7,11 +7,18 @@
 --   first-zero, test_zero       == the list comes to no refusal: not the first, and none of the rest
 --   kept, done                  == what is answered or left, refused or not
 --   told-number, told-value     == the number and a value of such an answer
+--   number-positive, named-number == a refusal's number is not 0, and names it
+--   refused, accepted           == what a call answers whose test came to a refusal, and to none
+--   Known r                     == r is 0 or a refusal's number
+--   known-none, -test, -first   == so is what no test comes to, one test, and a list of them
 -- Assumes nothing.
-use Rattle.std.specs.Prelude.{◌≡◌, refl, Bool, true, false, List, [], ◌∷◌, ℕ, T, ltb}
+use Rattle.std.specs.Prelude.{◌≡◌, refl, Bool, true, false, List, [], ◌∷◌, ℕ, T, ltb, Ok, Err}
 use Rattle.std.proofs.Common.{ap, sym, ◌∙◌, eq-eqb, ne_eqb}
 use Rattle.std.proofs.Math.Decide.{ℕ_discrete}
-use Rattle.refusal.specs.Refusal.{refuse_unless, first, unless_refused}
+use Rattle.refusal.specs.Refusal.{refuse_unless, first, unless_refused, number, among, named, answered}
+use Rattle.refusal.specs.declared.Refusal.{Refusal}
+use Rattle.refusal.specs.declared.Refusal.TheVariants.{FieldSize, Range, Count, Length, Index, Entry, NotReduced, TooFew, TooMany}
+use Rattle.refusal.specs.declared.Refusal.TheVariants.{Numbering, Line, Listing, RowCount, Receiver, Mismatch, Pack}
 
 pub first-none : first [] ≡ 0
 unfolding first
@@ -81,12 +88,13 @@ module _ {A : Type 0} (refusal : ℕ) (answer other : A) where
   unfolding unless_refused
   done z = rw (eq-eqb refusal 0 z)
 
-  pub told-number : (number : A → ℕ) → number answer ≡ 0 → number other ≡ refusal → number (unless_refused refusal answer other) ≡ refusal
+  pub told-number : (number : A → ℕ) → number answer ≡ 0 → ((refusal ≡ 0 → ⊥) → number other ≡ refusal)
+      → number (unless_refused refusal answer other) ≡ refusal
   told-number number none same = cases (ℕ_discrete refusal 0)
     where
       cases : Dec (refusal ≡ 0) → number (unless_refused refusal answer other) ≡ refusal
       cases (yes z) = ap number (sym (done z)) ∙ none ∙ sym z
-      cases (no z) = ap number (sym (kept z)) ∙ same
+      cases (no z) = ap number (sym (kept z)) ∙ same z
 
   pub told-value : (value : A → ℕ) (v : ℕ) → value answer ≡ v → value other ≡ 0
       → value (unless_refused refusal answer other) ≡ unless_refused refusal v 0
@@ -96,3 +104,67 @@ module _ {A : Type 0} (refusal : ℕ) (answer other : A) where
       cases : Dec (refusal ≡ 0) → value (unless_refused refusal answer other) ≡ unless_refused refusal v 0
       cases (yes z) = rw (eq-eqb refusal 0 z) same
       cases (no z) = rw (ne_eqb refusal 0 z) none
+
+pub number-positive : (r : Refusal) → number r ≡ 0 → ⊥
+number-positive FieldSize = positive (number FieldSize) tt
+number-positive Range = positive (number Range) tt
+number-positive Count = positive (number Count) tt
+number-positive Length = positive (number Length) tt
+number-positive Index = positive (number Index) tt
+number-positive Entry = positive (number Entry) tt
+number-positive NotReduced = positive (number NotReduced) tt
+number-positive TooFew = positive (number TooFew) tt
+number-positive TooMany = positive (number TooMany) tt
+number-positive Numbering = positive (number Numbering) tt
+number-positive Line = positive (number Line) tt
+number-positive Listing = positive (number Listing) tt
+number-positive RowCount = positive (number RowCount) tt
+number-positive Receiver = positive (number Receiver) tt
+number-positive Mismatch = positive (number Mismatch) tt
+number-positive Pack = positive (number Pack) tt
+
+pub named-number : (r : Refusal) → named (number r) ≡ r
+unfolding named among
+named-number FieldSize = refl
+named-number Range = refl
+named-number Count = refl
+named-number Length = refl
+named-number Index = refl
+named-number Entry = refl
+named-number NotReduced = refl
+named-number TooFew = refl
+named-number TooMany = refl
+named-number Numbering = refl
+named-number Line = refl
+named-number Listing = refl
+named-number RowCount = refl
+named-number Receiver = refl
+named-number Mismatch = refl
+named-number Pack = refl
+
+module _ {A : Type 0} (r : ℕ) (answer : A) where
+  pub refused : (refusal : Refusal) → number refusal ≡ r → Err refusal ≡ answered r answer
+  refused refusal e =
+      ap Err (sym (named-number refusal) ∙ ap named e) ∙ kept r (Ok answer) (Err (named r)) (λ z. number-positive refusal (e ∙ z))
+
+  pub accepted : r ≡ 0 → Ok answer ≡ answered r answer
+  accepted z = done r (Ok answer) (Err (named r)) z
+
+abbrev pub Known : ℕ → Type 0
+Known r = (r ≡ 0 → ⊥) → number (named r) ≡ r
+
+pub known-none : Known (first [])
+known-none z = absurd (z first-none)
+
+pub known-test : (b : Bool) (refusal : Refusal) → Known (refuse_unless b (number refusal))
+unfolding refuse_unless
+known-test true refusal z = absurd (z refl)
+known-test false refusal z = ap number (named-number refusal)
+
+module _ (refusal : ℕ) (rest : List ℕ) where
+  pub known-first : Known refusal → Known (first rest) → Known (first (refusal ∷ rest))
+  known-first here there z = cases (ℕ_discrete refusal 0)
+    where
+      cases : Dec (refusal ≡ 0) → number (named (first (refusal ∷ rest))) ≡ first (refusal ∷ rest)
+      cases (yes e) = let p = first-passed refusal rest e in ap (λ r. number (named r)) p ∙ there (λ y. z (p ∙ y)) ∙ sym p
+      cases (no e) = let p = first-refused refusal rest e in ap (λ r. number (named r)) p ∙ here e ∙ sym p

@@ -3,9 +3,10 @@
 --   accepted, not-refused   == settings are not refused exactly where they are Accepted
 --   count-accepted, count-refused == what the table's entry says of the settings
 --   entry-of-accepted       == the table's entry for accepted settings is their count
+--   settings-known          == the first refusal of settings is one, or none
 --   count-told              == the number and the count that an answer of Count tells
 -- Assumes nothing.
-use Rattle.std.specs.Prelude.{◌≡◌, true, ℕ, ◌≤◌, T, leb}
+use Rattle.std.specs.Prelude.{◌≡◌, true, ℕ, ◌≤◌, T, leb, Result, Ok, Err}
 use Rattle.std.proofs.Math.Path.{refl, ap, sym}
 use Rattle.std.proofs.Common.{◌∙◌, arith}
 use mathlib.Core.List.{◌∷◌, []}
@@ -16,14 +17,15 @@ use Rattle.basics.specs.Choice.{pick}
 use Rattle.basics.specs.Laws.Choice.{is_true, holds}
 use Rattle.basics.specs.Laws.Order.{le-or-lt}
 use Rattle.basics.specs.Laws.Test.{and_left, and_right}
-use Rattle.refusal.specs.Refusal.{field_size_refusal, range_refusal, count_refusal, refuse_unless, unless_refused}
+use Rattle.refusal.specs.Refusal.{field_size_refusal, range_refusal, count_refusal, refuse_unless, unless_refused, named}
 use Rattle.refusal.specs.Laws.First.{test-refused, test-passed, test_zero, first-none, told-number, told-value}
+use Rattle.refusal.specs.Laws.First.{Known, known-none, known-test, known-first}
 use Rattle.field.specs.Field.{is_field_size}
 use Rattle.counts.specs.Gaussian.{gaussian, greatest_count, table_entry}
 use Rattle.counts.specs.Laws.GaussianLaws.{gaussian-positive, entry-within}
 use Rattle.settings.specs.Settings.{row_length_ok, range_ok, count_ok, settings_refusal, count_of, count_number, count_value}
-use Rattle.settings.specs.declared.Counted.{Counted}
-use Rattle.settings.specs.declared.Counted.TheVariants.{Count, Refused}
+use Rattle.refusal.specs.declared.Refusal.{Refusal}
+use Rattle.refusal.specs.declared.Refusal.TheVariants.{FieldSize, Range, Count}
 
 pub record Accepted (q n k : ℕ) : Type 0 where
   pub size : T (is_field_size q)
@@ -92,12 +94,19 @@ module _ (q n k : ℕ) where
   pub entry-of-accepted : Accepted q n k → table_entry q n k ≡ gaussian q n k
   entry-of-accepted a = entry-within q n k a.counted
 
-  pub count-told : (r : Counted) → r ≡ count_of q n k
+  pub settings-known : Known (settings_refusal q n k)
+  unfolding settings_refusal
+  settings-known =
+      known-first _ _ (known-test _ FieldSize)
+      (known-first _ _ (known-test _ Range) (known-first _ _ (known-test _ Count) known-none))
+
+  pub count-told : (r : Result ℕ Refusal) → r ≡ count_of q n k
       → (count_number r ≡ settings_refusal q n k) × (count_value r ≡ unless_refused (settings_refusal q n k) (gaussian q n k) 0)
   unfolding count_of
   count-told r e =
       let refusal = settings_refusal q n k in
-      let count = Count (gaussian q n k) in (
-        ap count_number e ∙ told-number refusal count (Refused refusal) count_number refl refl,
-        ap count_value e ∙ told-value refusal count (Refused refusal) count_value (gaussian q n k) refl refl,
+      let count = Ok (gaussian q n k) in
+      let other = Err (named refusal) in (
+        ap count_number e ∙ told-number refusal count other count_number refl settings-known,
+        ap count_value e ∙ told-value refusal count other count_value (gaussian q n k) refl refl,
       )
