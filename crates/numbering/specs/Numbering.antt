@@ -1,6 +1,8 @@
 -- The two numberings side by side. Document 01: "Numbering 1 is extended, numbering 2 is Ferrers."
 --   extended, ferrers   == 1 and 2
 --   is_numbering t       == the test that t is one of them
+--   code c               == the number of a numbering
+--   Chooses t r          == r is the numbering that t stands for, or 10 where t stands for none
 --   Numbering           == what a numbering is: the index of a reduced matrix, the matrix of an index, and the order
 --   extended_numbering, ferrers_numbering == the two of them
 --   numbering_of t       == the numbering that t stands for
@@ -11,7 +13,7 @@
 --   index_value          == the number of such an index
 --   choice_refusal       == 1, 2, 3, then "10 if the numbering is neither 1 nor 2", with which most calls begin
 -- Assumes nothing.
-use Rattle.std.specs.Prelude.{Bool, ◌||◌, List, [], ◌∷◌, ℕ, eqb}
+use Rattle.std.specs.Prelude.{◌≡◌, Bool, false, ◌||◌, List, [], ◌∷◌, ℕ, eqb, Result, MatchResult}
 use Rattle.basics.specs.Choice.{pick}
 use Rattle.refusal.specs.Refusal.{numbering_refusal, refuse_unless, first}
 use Rattle.settings.specs.Settings.{settings_refusal}
@@ -19,6 +21,10 @@ use Rattle.extended.specs.Extended.{extended_index, extended_before}
 use Rattle.extended.specs.Drawn.{drawn_extended}
 use Rattle.ferrers.specs.Ferrers.{ferrers_index, ferrers_before}
 use Rattle.ferrers.specs.Drawn.{drawn_ferrers}
+use Rattle.refusal.specs.declared.Refusal.{Refusal}
+use Rattle.refusal.specs.declared.Refusal.TheVariants as refusals
+use Rattle.numbering.specs.declared.Numbering.{Numbering as Choice}
+use Rattle.numbering.specs.declared.Numbering.TheVariants as choices
 use Rattle.numbering.specs.declared.Index.{Index}
 use Rattle.numbering.specs.declared.Index.TheVariants.{Extended, Ferrers}
 
@@ -30,6 +36,13 @@ ferrers = 2
 
 unfoldable pub is_numbering : ℕ → Bool
 is_numbering t = eqb t extended || eqb t ferrers
+
+abbrev pub code : Choice → ℕ
+code choices.Extended = extended
+code choices.Ferrers = ferrers
+
+abbrev pub Chooses : ℕ → Result Choice Refusal → Type 0
+Chooses t r = MatchResult r (λ c. code c ≡ t) (λ e. (e ≡ refusals.Numbering) × (is_numbering t ≡ false))
 
 pub record Numbering : Type 1 where
   pub index : ℕ → ℕ → ℕ → List ℕ → ℕ

@@ -1,66 +1,85 @@
 // The two numberings side by side: what stands for which, and the index and the matrix in either.
 #![tactic(auto)]
 
-ghost use Rattle.std.specs.Prelude.{◌≡◌, ◌*◌, ◌<◌, length};
+ghost use Rattle.std.specs.Prelude.{◌≡◌, ◌*◌, ◌<◌, length, IfOk};
+ghost use Rattle.refusal.specs.Refusal.{number_of};
 ghost use Rattle.counts.specs.Gaussian.{gaussian};
 ghost use Rattle.settings.specs.Laws.Accepted.{Accepted};
 ghost use Rattle.matrix.specs.Matrix.{identifying, Reduced};
 ghost use Rattle.extended.specs.Extended.{extended_index};
 ghost use Rattle.ferrers.specs.Ferrers.{ferrers_index};
-ghost use Rattle.numbering.specs.Numbering.{is_numbering, choice_refusal, index_in, index_of, drawn};
+ghost use Rattle.numbering.specs.Numbering.{code, Chooses, choice_refusal, index_in, index_of, index_value, drawn};
 
 use extended::ExtendedIndex;
 use ferrers::FerrersIndex;
+use refusal::Refusal;
 
 // The numberings of document 01.
-pub const EXTENDED: u64 = 1;
+#[derive(Clone, Copy, Debug, PartialEq, Eq)]
+pub enum Numbering {
+    Extended,
+    Ferrers,
+}
 
-pub const FERRERS: u64 = 2;
+// The numbering that a number stands for. Refuses 10.
+impl TryFrom<u64> for Numbering {
+    type Error = Refusal;
+
+    ghost try_from_gives = { Chooses };
+
+    fn try_from(t: u64) -> Result<Self, Refusal> {
+        match t {
+            1 => Ok(Numbering::Extended),
+            2 => Ok(Numbering::Ferrers),
+            _ => Err(Refusal::Numbering),
+        }
+    }
+}
 
 // An index, with the numbering it is of.
-#[derive(Drop)]
+#[derive(Clone, Copy)]
 pub enum Index {
     Extended(ExtendedIndex),
     Ferrers(FerrersIndex),
 }
 
-// Whether t is one of the two numberings.
-pub fn is_numbering(t: u64) -> bool
-    ensures { result ≡ is_numbering t }
-{
-    t == EXTENDED || t == FERRERS
+// The number of an index, whichever numbering it is of.
+impl From<Index> for u64 {
+    ghost from_gives = { λ i n. n ≡ index_value i };
+
+    fn from(index: Index) -> u64 {
+        match index {
+            Index::Extended(i) => i.0,
+            Index::Ferrers(i) => i.0,
+        }
+    }
 }
 
-// The first of the refusals 1, 2, 3, 10 that applies; 0 where none does.
-pub fn choice_refusal(q: u64, n: u64, k: u64, t: u64) -> u32
-    ensures { result ≡ choice_refusal q n k t }
+// Tests the settings and the numbering, which it answers: the first of the refusals 1, 2, 3, 10 that applies.
+pub fn check(q: u64, n: u64, k: u64, t: u64) -> Result<Numbering, Refusal>
+    ensures refusal { number_of result ≡ choice_refusal q n k t }
+    ensures chosen { IfOk result (λ c. code c ≡ t) }
 {
-    let settings = settings::settings_refusal(q, n, k);
-    if settings != 0 {
-        return settings;
-    }
-    if !is_numbering(t) {
-        return refusal::NUMBERING;
-    }
-    0
+    settings::check(q, n, k)?;
+    Numbering::try_from(t)
 }
 
 // The index of a reduced matrix in the numbering t; v is the identifying vector.
-fn rank_in(m: &[u8], q: u64, n: usize, k: usize, t: u64, v: u16) -> Index
+fn rank_in(m: &[u8], q: u64, n: usize, k: usize, t: Numbering, v: u16) -> Index
     requires { Accepted q n k × Reduced q n k m.now × (v ≡ identifying n k m.now) }
-    ensures { result ≡ index_in t (index_of q n k t m.now) }
+    ensures { result ≡ index_in (code t) (index_of q n k (code t) m.now) }
 {
-    if t == EXTENDED {
-        return Index::Extended(extended::rank(m, q, n, k, v));
+    match t {
+        Numbering::Extended => Index::Extended(extended::rank(m, q, n, k, v)),
+        Numbering::Ferrers => Index::Ferrers(ferrers::rank(m, q, n, k, v)),
     }
-    Index::Ferrers(ferrers::rank(m, q, n, k, v))
 }
 
 // The same, the slice and the index each handed over in its two parts. Copied whole, each would be read back from memory, 16 bytes at once,
 // before its parts are stored there, and that read would wait.
-pub fn rank(m: &[u8], q: u64, n: usize, k: usize, t: u64, v: u16) -> Index
+pub fn rank(m: &[u8], q: u64, n: usize, k: usize, t: Numbering, v: u16) -> Index
     requires { Accepted q n k × Reduced q n k m.now × (v ≡ identifying n k m.now) }
-    ensures { result ≡ index_in t (index_of q n k t m.now) }
+    ensures { result ≡ index_in (code t) (index_of q n k (code t) m.now) }
 {
     match rank_in(&m[..k * n], q, n, k, t, v) {
         Index::Extended(index) => Index::Extended(index),
@@ -69,19 +88,19 @@ pub fn rank(m: &[u8], q: u64, n: usize, k: usize, t: u64, v: u16) -> Index
 }
 
 // Writes the reduced matrix with the given index of the numbering t, and answers its identifying vector.
-pub fn unrank(m: &mut [u8], q: u64, n: usize, k: usize, t: u64, index: u64) -> u16
+pub fn unrank(m: &mut [u8], q: u64, n: usize, k: usize, t: Numbering, index: u64) -> u16
     requires { Accepted q n k × (index < gaussian q n k) × (length m.old ≡ k * n) }
-    ensures m_after { m.new ≡ drawn q n k t index }
-    ensures value { result ≡ identifying n k (drawn q n k t index) }
+    ensures m_after { m.new ≡ drawn q n k (code t) index }
+    ensures value { result ≡ identifying n k (drawn q n k (code t) index) }
 {
-    if t == EXTENDED {
-        return extended::unrank(m, q, n, k, ExtendedIndex(index));
+    match t {
+        Numbering::Extended => extended::unrank(m, q, n, k, ExtendedIndex(index)),
+        Numbering::Ferrers => ferrers::unrank(m, q, n, k, FerrersIndex(index)),
     }
-    ferrers::unrank(m, q, n, k, FerrersIndex(index))
 }
 
 // The indexes of a space, one in each numbering.
-#[derive(Drop)]
+#[derive(Clone, Copy)]
 pub struct Indexes {
     pub extended: ExtendedIndex,
     pub ferrers: FerrersIndex,
@@ -89,38 +108,34 @@ pub struct Indexes {
 
 // Writes the reduced matrix with the given index of the numbering t, and answers its index in either numbering. Every matrix that is drawn
 // is reduced, so it has both, and nothing is left to refuse.
-pub fn unrank_indexes(m: &mut [u8], q: u64, n: usize, k: usize, t: u64, index: u64) -> Indexes
+pub fn unrank_indexes(m: &mut [u8], q: u64, n: usize, k: usize, t: Numbering, index: u64) -> Indexes
     requires { Accepted q n k × (index < gaussian q n k) × (length m.old ≡ k * n) }
-    ensures m_after { m.new ≡ drawn q n k t index }
-    ensures extended_value { (result.extended.0 ≡ extended_index q n k (drawn q n k t index))
-        × (result.ferrers.0 ≡ ferrers_index q n k (drawn q n k t index)) }
+    ensures m_after { m.new ≡ drawn q n k (code t) index }
+    ensures extended_value { (result.extended.0 ≡ extended_index q n k (drawn q n k (code t) index))
+        × (result.ferrers.0 ≡ ferrers_index q n k (drawn q n k (code t) index)) }
 {
     let vector = unrank(m, q, n, k, t, index);
-    if t == EXTENDED {
-        let ferrers = ferrers::rank(m, q, n, k, vector);
-        return Indexes {
+    match t {
+        Numbering::Extended => Indexes {
             extended: ExtendedIndex(index),
-            ferrers,
-        };
-    }
-    let extended = extended::rank(m, q, n, k, vector);
-    Indexes {
-        extended,
-        ferrers: FerrersIndex(index),
+            ferrers: ferrers::rank(m, q, n, k, vector),
+        },
+        Numbering::Ferrers => Indexes {
+            extended: extended::rank(m, q, n, k, vector),
+            ferrers: FerrersIndex(index),
+        },
     }
 }
 
 // The index, in the numbering `to`, of the matrix that has the given index in the numbering `from`.
-pub fn counterpart(q: u64, n: usize, k: usize, from: u64, to: u64, index: u64) -> Index
+pub fn counterpart(q: u64, n: usize, k: usize, from: Numbering, to: Numbering, index: u64) -> Index
     requires { Accepted q n k × (index < gaussian q n k) }
-    ensures { result ≡ index_in to (index_of q n k to (drawn q n k from index)) }
+    ensures { result ≡ index_in (code to) (index_of q n k (code to) (drawn q n k (code from) index)) }
 {
     let mut entries = [0u8; 256];
     let found = unrank_indexes(&mut entries[..k * n], q, n, k, from, index);
-    if to == EXTENDED {
-        let extended = found.extended;
-        return Index::Extended(extended);
+    match to {
+        Numbering::Extended => Index::Extended(found.extended),
+        Numbering::Ferrers => Index::Ferrers(found.ferrers),
     }
-    let ferrers = found.ferrers;
-    Index::Ferrers(ferrers)
 }
