@@ -1,9 +1,13 @@
 // Draw over a list of indexes with the same settings.
 #![tactic(auto)]
 
-ghost use Rattle.std.specs.Prelude.{◌≡◌, ◌*◌, eqb, length};
-ghost use Rattle.numbering.specs.Numbering.{choice_refusal};
+ghost use Rattle.std.specs.Prelude.{◌≡◌, ◌*◌, eqb, length, IfOk};
+ghost use Rattle.refusal.specs.Refusal.{number_of};
+ghost use Rattle.numbering.specs.Numbering.{code, choice_refusal};
 ghost use Rattle.draw_batch.specs.Batch.{batch_refusal, draw_parts, draw_answers, batch_matrices, batch_answers};
+
+use numbering::Numbering;
+use refusal::Refusal;
 
 // Whether `length` is `count` times `size`. The product may need more than 64 bits, so the length is divided.
 fn is_product(length: usize, count: usize, size: usize) -> bool
@@ -15,8 +19,8 @@ fn is_product(length: usize, count: usize, size: usize) -> bool
     length / size == count && length % size == 0
 }
 
-// The first refusal of the whole list that applies, told by the lengths; 0 where none does.
-fn batch_refusal(
+// Tests the choice, which it answers, and the lengths: the first refusal of the whole list that applies.
+fn check(
     q: u64,
     n: u64,
     k: u64,
@@ -24,20 +28,25 @@ fn batch_refusal(
     count: usize,
     matrices: usize,
     answers: usize,
-) -> u32
-    ensures { result ≡ batch_refusal q n k t count matrices answers }
+) -> Result<Numbering, Refusal>
+    ensures refusal { number_of result ≡ batch_refusal q n k t count matrices answers }
+    ensures chosen { IfOk result (λ c. code c ≡ t) }
 {
-    let choice = numbering::choice_refusal(q, n, k, t);
-    if choice != 0 {
-        return choice;
+    let numbering = numbering::check(q, n, k, t)?;
+    if !is_product(matrices, count, (k * n) as usize) || answers != count {
+        return Err(Refusal::Length);
     }
-    if !is_product(matrices, count, (k * n) as usize) {
-        return refusal::LENGTH;
+    Ok(numbering)
+}
+
+// The answer byte of one Draw.
+fn answer_of(drawn: Result<(), Refusal>) -> u8
+    ensures { result ≡ number_of drawn }
+{
+    match drawn {
+        Ok(()) => 0,
+        Err(refusal) => refusal.into(),
     }
-    if answers != count {
-        return refusal::LENGTH;
-    }
-    0
 }
 
 // Draws the matrix of each index of the list to its part.
@@ -45,39 +54,29 @@ fn draw_parts(
     q: u64,
     n: usize,
     k: usize,
-    t: u64,
+    t: Numbering,
     indexes: &[u64],
     matrices: &mut [u8],
     answers: &mut [u8],
 )
-    requires { (choice_refusal q n k t ≡ 0) × (length matrices.old ≡ length indexes.now * (k * n))
+    requires { (choice_refusal q n k (code t) ≡ 0) × (length matrices.old ≡ length indexes.now * (k * n))
         × (length answers.old ≡ length indexes.now) }
-    ensures matrices_after { matrices.new ≡ draw_parts q n k t indexes.now matrices.old }
-    ensures answers_after { answers.new ≡ draw_answers q n k t indexes.now }
+    ensures matrices_after { matrices.new ≡ draw_parts q n k (code t) indexes.now matrices.old }
+    ensures answers_after { answers.new ≡ draw_answers q n k (code t) indexes.now }
 {
     let total = counts::coefficient(q, n as u64, k as u64);
     let size = k * n;
     let mut at = 0;
-    let mut place = 0;
-    while place < indexes.len() {
+    for (place, &index) in indexes.iter().enumerate() {
         let end = at + size;
-        answers[place] = draw::draw_index(
-            &mut matrices[at..end],
-            q,
-            n,
-            k,
-            t,
-            total,
-            indexes[place],
-        );
+        let drawn = draw::draw_index(&mut matrices[at..end], q, n, k, t, total, index);
+        answers[place] = answer_of(drawn);
         at = end;
-        place += 1;
     }
 }
 
 // Draws a list of indexes: the reduced matrix of each index of the numbering t goes to its k×n bytes of `matrices`, and 0 to its byte of
-// `answers`. An index of N or more leaves its k×n bytes, and its answer is 5. Answers 0, or the refusal of the whole, which leaves both
-// buffers. Refuses 1, 2, 3, 10, 4 (either buffer is not exactly as long as the list needs).
+// `answers`. An index of N or more leaves its k×n bytes, and its answer is 5. A refusal of the whole leaves both buffers. Refuses 1, 2, 3, 10, 4 (either buffer is not exactly as long as the list needs).
 pub fn draw_batch(
     q: u64,
     n: u64,
@@ -86,18 +85,17 @@ pub fn draw_batch(
     indexes: &[u64],
     matrices: &mut [u8],
     answers: &mut [u8],
-) -> u32
-    ensures value { result
+) -> Result<(), Refusal>
+    ensures value { number_of result
         ≡ batch_refusal q n k t (length indexes.now) (length matrices.old) (length answers.old) }
     ensures matrices_after { matrices.new
         ≡ batch_matrices q n k t indexes.now matrices.old (length answers.old) }
     ensures answers_after { answers.new
         ≡ batch_answers q n k t indexes.now (length matrices.old) answers.old }
 {
-    let refusal = batch_refusal(q, n, k, t, indexes.len(), matrices.len(), answers.len());
-    if refusal != 0 {
-        return refusal;
-    }
-    draw_parts(q, n as usize, k as usize, t, indexes, matrices, answers);
-    0
+    let numbering = check(q, n, k, t, indexes.len(), matrices.len(), answers.len())?;
+    draw_parts(
+        q, n as usize, k as usize, numbering, indexes, matrices, answers,
+    );
+    Ok(())
 }

@@ -26,10 +26,10 @@ pub enum Refusal {
 }
 
 // The number of a refusal. 15 is retired by order 4.
-impl From<Refusal> for u32 {
+impl From<Refusal> for u8 {
     ghost from_gives = { λ r n. n ≡ number r };
 
-    fn from(refusal: Refusal) -> u32 {
+    fn from(refusal: Refusal) -> u8 {
         match refusal {
             Refusal::FieldSize => 1,
             Refusal::Range => 2,
@@ -48,6 +48,14 @@ impl From<Refusal> for u32 {
             Refusal::Mismatch => 16,
             Refusal::Pack => 17,
         }
+    }
+}
+
+impl From<Refusal> for u32 {
+    ghost from_gives = { λ r n. n ≡ number r };
+
+    fn from(refusal: Refusal) -> u32 {
+        u8::from(refusal).into()
     }
 }
 
