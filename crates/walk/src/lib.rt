@@ -2,7 +2,7 @@
 // column is clear above it where no row above has marked it, and below it because the rows below begin farther to the right.
 #![tactic(auto)]
 
-ghost use Rattle.std.specs.Prelude.{◌≡◌, ◌+◌, ◌*◌, ◌-◌, ◌^◌, ◌≤◌, ◌<◌, max, length};
+ghost use Rattle.std.specs.Prelude.{◌≡◌, ◌+◌, ◌*◌, ◌-◌, ◌^◌, ◌≤◌, ◌<◌, length};
 ghost use Rattle.walk.specs.Walk.{digit as digit_of, entered, row_read, extends as extends_by};
 ghost use Rattle.walk.specs.Walk.{bounded, ended, walked, oversized as oversized_by};
 
