@@ -9,9 +9,5 @@ pub fn copy(source: &[u8], target: &mut [u8], start: usize)
     requires { start + length source.now ≤ length target.old }
     ensures { target.new ≡ paste target.old start source.now (length source.now) }
 {
-    let mut j = 0;
-    while j < source.len() {
-        target[start + j] = source[j];
-        j += 1;
-    }
+    target[start..start + source.len()].copy_from_slice(source);
 }

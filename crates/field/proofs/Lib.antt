@@ -1,3 +1,1 @@
-pub mod Sizes
-pub mod Bytes
 pub mod Remainders

@@ -42,7 +42,7 @@ pub fn is_polynomial(q: u64) -> bool
 pub fn bits(q: u64) -> u32
     ensures { result ≡ element_bits q }
 {
-    u64::trailing_zeros(q)
+    q.trailing_zeros()
 }
 
 // c·b of polynomials: each bit of c gives b at that bit's power of t. In four t^2 is cleared by the modulus. In eight t^3 is t + 1: what

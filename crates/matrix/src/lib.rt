@@ -14,14 +14,10 @@ pub fn lead(m: &[u8], start: usize, n: usize) -> usize
     requires { start + n ≤ length m.now }
     ensures { result ≡ lead_of (λ j. get_or m.now (start + j) 0) n }
 {
-    let mut j = 0;
-    while j < n {
-        if m[start + j] != 0 {
-            return j;
-        }
-        j += 1;
-    }
-    n
+    m[start..start + n]
+        .iter()
+        .position(|x| *x != 0)
+        .unwrap_or(n)
 }
 
 // The greatest byte; 0 where there is none. The loop has no way out, so that the compiler compares many bytes in one step.
@@ -29,12 +25,8 @@ pub fn greatest(m: &[u8]) -> u8
     ensures { (q : ℕ) → 0 < q → ltb result q ≡ entries_below q m.now }
 {
     let mut greatest: u8 = 0;
-    let mut place = 0;
-    while place < m.len() {
-        if greatest < m[place] {
-            greatest = m[place];
-        }
-        place += 1;
+    for &x in m {
+        greatest = greatest.max(x);
     }
     greatest
 }
@@ -72,6 +64,29 @@ fn left_over(q: u32, x: u64, others: u64) -> u8
     (((x % 256) as u32 + 256 * q - (others % 256) as u32 * q) % 256) as u8
 }
 
+// Parts x by D, a power of 2: the compiler shifts and masks.
+fn part_even<const D: u64>(x: u64) -> Parted
+    requires { (0 < D) × (D ≤ 8) }
+    ensures { (result.others ≡ x / D) × (result.last ≡ x % D) }
+{
+    Parted {
+        others: x / D,
+        last: (x % D) as u8,
+    }
+}
+
+// Parts x by another D: by one product, and what is left over by the low bytes.
+fn part_odd<const D: u64>(x: u64) -> Parted
+    requires { (0 < D) × (D ≤ 8) }
+    ensures { (result.others ≡ x / D) × (result.last ≡ x % D) }
+{
+    let others = x / D;
+    Parted {
+        others,
+        last: left_over(D as u32, x, others),
+    }
+}
+
 // Parts x by q. Each size has its own constants, so that nothing is divided or shifted by a number that is known only at run time, and the
 // evenness is asked first, so that the compiler makes a loop for each size.
 fn part_digit(q: u64, x: u64) -> Parted
@@ -79,36 +94,16 @@ fn part_digit(q: u64, x: u64) -> Parted
     ensures { (result.others ≡ x / q) × (result.last ≡ x % q) }
 {
     if q % 2 == 0 {
-        if q == 2 {
-            return Parted {
-                others: x / 2,
-                last: (x % 2) as u8,
-            };
-        }
-        if q == 4 {
-            return Parted {
-                others: x / 4,
-                last: (x % 4) as u8,
-            };
-        }
-        return Parted {
-            others: x / 8,
-            last: (x % 8) as u8,
+        return match q {
+            2 => part_even::<2>(x),
+            4 => part_even::<4>(x),
+            _ => part_even::<8>(x),
         };
     }
     match q {
-        3 => Parted {
-            others: x / 3,
-            last: left_over(3, x, x / 3),
-        },
-        5 => Parted {
-            others: x / 5,
-            last: left_over(5, x, x / 5),
-        },
-        _ => Parted {
-            others: x / 7,
-            last: left_over(7, x, x / 7),
-        },
+        3 => part_odd::<3>(x),
+        5 => part_odd::<5>(x),
+        _ => part_odd::<7>(x),
     }
 }
 
@@ -121,10 +116,8 @@ pub fn write_digits(m: &mut [u8], q: u64, n: usize, k: usize, c: usize, rows: us
 {
     let mut rest = x;
     let mut start = rows * n;
-    let mut i = rows;
-    while i > 0 {
+    for _ in 0..rows {
         let parted = part_digit(q, rest);
-        i -= 1;
         start -= n;
         m[start + c] = parted.last;
         rest = parted.others;
@@ -144,11 +137,7 @@ pub fn write_pivot(m: &mut [u8], n: usize, k: usize, c: usize, row: usize)
 pub fn clear(m: &mut [u8])
     ensures { m.new ≡ replicate (length m.old) 0 }
 {
-    let mut i = 0;
-    while i < m.len() {
-        m[i] = 0;
-        i += 1;
-    }
+    m.fill(0);
 }
 
 // x, with the first `rows` entries of column c as base-q digits after it, top row first.
@@ -157,10 +146,8 @@ pub fn append_digits(x: u64, m: &[u8], q: u64, n: usize, c: usize, rows: usize) 
     ensures { result ≡ x * q ^ rows + top_value q (entry n m.now) rows c }
 {
     let mut value = x;
-    let mut i = 0;
-    while i < rows {
+    for i in 0..rows {
         value = value * q + m[i * n + c] as u64;
-        i += 1;
     }
     value
 }
@@ -172,10 +159,8 @@ pub fn vector_of(m: &[u8], pivots: &[u8], n: usize, k: usize) -> u16
     ensures { result ≡ vector_of n k m.now }
 {
     let mut vector: u16 = 0;
-    let mut row = k;
-    while row > 0 {
-        row -= 1;
-        vector = add_pivot(vector, n, pivots[row] as usize);
+    for &p in &pivots[..k] {
+        vector = add_pivot(vector, n, p as usize);
     }
     vector
 }
@@ -185,7 +170,7 @@ pub fn vector_of(m: &[u8], pivots: &[u8], n: usize, k: usize) -> u16
 pub fn next_pivot(v: u16) -> usize
     ensures { result ≡ count_trailing_zeros 16 v }
 {
-    u16::trailing_zeros(v) as usize
+    v.trailing_zeros() as usize
 }
 
 // Writes the columns of a reduced matrix's pivots, from the top row down, by its identifying vector: the lowest set bit is the pivot of the
@@ -196,9 +181,7 @@ pub fn pivot_columns(v: u16, n: usize, k: usize, pivots: &mut [u8])
         → (i : ℕ) → i < k → get_or pivots.new i 0 ≡ pivot n m i }
 {
     let mut rest = v;
-    let mut i = k;
-    while i > 0 {
-        i -= 1;
+    for i in (0..k).rev() {
         let j = next_pivot(rest);
         pivots[i] = (n - 1 - j) as u8;
         rest -= 1u16 << j;
@@ -210,5 +193,5 @@ pub fn pivot_at(v: u16, j: usize) -> bool
     requires { j < 16 }
     ensures { result ≡ eqb (v / 2 ^ j % 2) 1 }
 {
-    u16::trailing_zeros(v >> j) == 0
+    (v >> j) % 2 == 1
 }

@@ -2,7 +2,7 @@
 // column is clear above it where no row above has marked it, and below it because the rows below begin farther to the right.
 #![tactic(auto)]
 
-ghost use Rattle.std.specs.Prelude.{◌≡◌, ◌+◌, ◌*◌, ◌-◌, ◌^◌, ◌≤◌, ◌<◌, max, length};
+ghost use Rattle.std.specs.Prelude.{◌≡◌, ◌+◌, ◌*◌, ◌-◌, ◌^◌, ◌≤◌, ◌<◌, length};
 ghost use Rattle.walk.specs.Walk.{digit as digit_of, entered, row_read, extends as extends_by};
 ghost use Rattle.walk.specs.Walk.{bounded, ended, walked, oversized as oversized_by};
 
@@ -26,24 +26,11 @@ pub struct Walk {
     pub vector: u16,
 }
 
-// The greater of two entries.
-fn greater(a: u16, b: u16) -> u16
-    ensures { result ≡ max a b }
-{
-    if a < b {
-        return b;
-    }
-    a
-}
-
 // The two bits of an entry.
 fn digit(x: u8) -> u32
     ensures { result ≡ digit_of x }
 {
-    if x < 2 {
-        return x as u32;
-    }
-    2
+    x.min(2) as u32
 }
 
 impl Row {
@@ -54,7 +41,7 @@ impl Row {
     {
         Row {
             column: self.column + 1,
-            greatest: greater(self.greatest, x as u16),
+            greatest: self.greatest.max(x as u16),
             code: self.code + (digit(x) << (2 * self.column)),
         }
     }
@@ -62,23 +49,16 @@ impl Row {
 
 impl Walk {
     // Whether the rows are reduced together with one more, whose code has `zeros` zeros below its lowest bit.
+    #[tactic(auto, unfolding(crate::specs::Walk::extends))]
     fn extends(self, n: usize, zeros: usize) -> bool
         requires { n ≤ 16 }
         ensures { result ≡ extends_by n self zeros }
     {
-        if !self.reduced {
-            return false;
-        }
-        if n <= zeros / 2 {
-            return false;
-        }
-        if zeros % 2 != 0 {
-            return false;
-        }
-        if zeros / 2 < self.least {
-            return false;
-        }
-        (self.code >> zeros) % 4 == 0
+        self.reduced
+            && zeros / 2 < n
+            && zeros % 2 == 0
+            && self.least <= zeros / 2
+            && (self.code >> zeros) % 4 == 0
     }
 
     // The least number above the entries of the rows and of one more.
@@ -88,10 +68,7 @@ impl Walk {
         if row.column == 0 {
             return self.bound;
         }
-        if self.bound <= row.greatest as u32 {
-            return row.greatest as u32 + 1;
-        }
-        self.bound
+        self.bound.max(row.greatest as u32 + 1)
     }
 
     // Ends a row.
@@ -99,16 +76,16 @@ impl Walk {
         requires { (n ≤ 16) × (self.vector + 2 ^ (n - self.least) ≤ 2 ^ n) }
         ensures { result ≡ ended 32 n self row }
     {
-        let zeros = u32::trailing_zeros(row.code) as usize;
+        let zeros = row.code.trailing_zeros() as usize;
         let bound = self.bound_with(row);
         let code = self.code | row.code;
         if !self.extends(n, zeros) {
             return Walk {
                 bound,
                 code,
-                least: self.least,
                 reduced: false,
                 vector: 0,
+                ..self
             };
         }
         Walk {
@@ -138,10 +115,8 @@ fn read_row(m: &[u8], n: usize, i: usize) -> Row
         greatest: 0,
         code: 0,
     };
-    let mut j = 0;
-    while j < n {
-        row = row.enter(m[i * n + j]);
-        j += 1;
+    for &x in &m[i * n..i * n + n] {
+        row = row.enter(x);
     }
     row
 }
@@ -158,10 +133,8 @@ pub fn rows(m: &[u8], n: usize, k: usize) -> Walk
         reduced: true,
         vector: 0,
     };
-    let mut i = 0;
-    while i < k {
+    for i in 0..k {
         walk = walk.end_row(read_row(m, n, i), n);
-        i += 1;
     }
     walk
 }

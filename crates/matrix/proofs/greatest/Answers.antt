@@ -1,25 +1,19 @@
--- `matrix::greatest` meets its contract: the entries passed are below q exactly where the greatest of them is.
-use Rattle.std.proofs.Common.{◌∙◌, sym, ap, inl, inr, add-one, arith}
+use Rattle.std.proofs.Common.{◌∙◌, sym, ap, inl, inr, ⊎_elim, get_or, add-one, arith}
+use Rattle.basics.specs.Laws.Order.{le-or-lt}
 use Rattle.matrix.specs.Matrix.{entries_below}
 use Rattle.matrix.specs.Laws.Tests.{below_to, below-start, below_more}
 use Rattle.matrix.proofs.greatest.Goals as goal
-use Rattle.matrix.proofs.greatest.Goals.{then-greatest-m, else-greatest-m}
 
-pub loop-place-init : goal.loop-place-init
-loop-place-init c = (omega arith, λ q above. below-start q c.args.m.now above)
+pub loop-x-init : goal.loop-x-init
+loop-x-init c q above = below-start q c.args.m.now above
 
-pub loop-place-preserved : goal.loop-place-preserved
-loop-place-preserved c = (
-  omega arith,
-  λ q above.
-      let before = c.loop-place.invariant.1 q above in
-      rw add-one
-      (elim c.if-greatest-m.branch [
-        | then-greatest-m w ↦ below_more q _ _ _ _ before (omega arith) (omega arith) (inr w.greatest-is)
-        | else-greatest-m w ↦ below_more q _ _ _ _ before (omega arith) (omega arith) (inl w.greatest-is)
-      ]),
-)
+pub loop-x-preserved : goal.loop-x-preserved
+loop-x-preserved c q above =
+    let l = c.loop-x in
+    rw add-one
+    (below_more q _ _ _ _ (l.invariant q above) (omega arith) (omega arith)
+    (⊎_elim (λ less. inr (omega arith)) (λ more. inl (omega arith)) (le-or-lt l.greatest (get_or c.args.m.now l.x-index 0))))
 
 pub returns : goal.returns
 unfolding entries_below
-returns c q above = sym (c.loop-place.invariant.1 q above) ∙ ap (below_to q c.args.m.now) (omega arith)
+returns c q above = sym (c.loop-x.invariant q above) ∙ ap (below_to q c.args.m.now) (omega arith)

@@ -1,0 +1,8 @@
+-- The vector is what the rows passed add.
+use Rattle.std.proofs.Common.{◌≡◌}
+use Rattle.basics.specs.Sum.{sum}
+use Rattle.matrix.proofs.Laws.VectorRows.{row_power}
+use Rattle.matrix.proofs.vector_of.Given as goal
+
+abbrev pub invariant-loop-p : goal.invariant-loop-p
+invariant-loop-p l = l.vector ≡ sum l.p-index (row_power l.n l.m)
