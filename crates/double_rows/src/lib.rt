@@ -32,12 +32,10 @@ pub fn stack(n: usize, count: usize, rows: &[u8], doubled: bool, out: &mut [u8],
         (take start out.old ++ join (wide_rows doubled n (rows_of n count rows.now))) }
 {
     let mut to = start;
-    let mut i = 0;
-    while i < count {
+    for i in 0..count {
         let from = i * n;
         stack_row(&rows[from..from + n], doubled, out, to);
         to += n + n;
-        i += 1;
     }
 }
 
@@ -68,11 +66,9 @@ pub fn right_halves(n: usize, d: usize, m: &[u8], pivots: &[u8], out: &mut [u8])
 {
     matrix::clear(out);
     let mut count = 0;
-    let mut i = 0;
-    while i < d {
+    for (i, lead) in pivots[..d].iter().enumerate() {
         let from = i * (n + n);
-        count = put_half(n, &m[from..from + n + n], pivots[i] as usize, out, count);
-        i += 1;
+        count = put_half(n, &m[from..from + n + n], *lead as usize, out, count);
     }
     count
 }

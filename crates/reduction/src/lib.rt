@@ -23,10 +23,8 @@ fn residue(q: u64, n: usize, d: usize, row: &[u8], m: &mut [u8], pivots: &[u8])
     }
     let to = d * n;
     rows::enter(q, n, pivots[0] as usize, row, m, to);
-    let mut i = 1;
-    while i < d {
+    for i in 1..d {
         rows::eliminate(q, n, pivots[i] as usize, m, i * n, to);
-        i += 1;
     }
 }
 
@@ -41,15 +39,13 @@ fn clear_above(q: u64, n: usize, d: usize, p: usize, m: &mut [u8], pivots: &[u8]
         ++ drop (result * n) m.old }
 {
     let from = d * n;
-    let mut i = 0;
-    while i < d {
-        if p <= pivots[i] as usize {
+    for (i, lead) in pivots[..d].iter().enumerate() {
+        if p <= *lead as usize {
             return i;
         }
         rows::eliminate(q, n, p, m, from, i * n);
-        i += 1;
     }
-    i
+    d
 }
 
 // Puts row d among the d rows before it in the order of leads, and clears p, its lead, in the rows above it.
@@ -127,14 +123,12 @@ pub fn insert_rows(
         ≡ leads n (insert_rows q n (rows_of n d m.old) (rows_of n count input.now)) }
 {
     let mut held = d;
-    let mut i = 0;
-    while i < count {
+    for i in 0..count {
         if held == n {
             return held;
         }
         let at = i * n;
         held = insert(q, n, held, &input[at..at + n], m, pivots);
-        i += 1;
     }
     held
 }
@@ -157,11 +151,9 @@ fn take_off_rows(q: u64, n: usize, d: usize, m: &[u8], pivots: &[u8], work: &mut
     requires d_in_bounds { (d ≤ length pivots.now) × (take d pivots.now ≡ leads n (rows_of n d m.now)) }
     ensures { part n n work.new ≡ residue_of q n (rows_of n d m.now) (part n n work.old) }
 {
-    let mut i = 0;
-    while i < d {
+    for (i, lead) in pivots[..d].iter().enumerate() {
         let from = i * n;
-        take_off(q, n, pivots[i] as usize, &m[from..from + n], work);
-        i += 1;
+        take_off(q, n, *lead as usize, &m[from..from + n], work);
     }
 }
 

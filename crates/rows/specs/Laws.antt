@@ -2,6 +2,7 @@
 pub mod Steps
 pub mod Write
 pub mod Puts
+pub mod Factor
 pub mod AddScaled
 pub mod Adding
 pub mod Raise

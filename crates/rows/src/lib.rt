@@ -1,38 +1,55 @@
 // Operations on the rows of a flat matrix, n bytes a row, in lent bytes.
 #![tactic(auto)]
 
-ghost use Rattle.std.specs.Prelude.{◌≡◌, false, ◌⊎◌, ◌+◌, ◌*◌, ◌≤◌, ◌<◌, T, length};
-ghost use Rattle.field.specs.Field.{is_field_size, is_polynomial};
+ghost use Rattle.std.specs.Prelude.{◌≡◌, ℕ, false, ◌⊎◌, ◌+◌, ◌*◌, ◌≤◌, ◌<◌, T, length};
+ghost use Rattle.field.specs.Field.{is_field_size, is_polynomial, add as sum, multiply as product};
 ghost use Rattle.linear.specs.Span.{Row};
 ghost use Rattle.linear.specs.Eliminate.{lead_of, eliminate as eliminated, monic as monic_of};
 ghost use Rattle.rows.specs.Laws.Steps.{part, put, Apart, plus_multiple, multiple, swapped, raised};
 
-// Adds c times the row at `from` to the row at `to`, modulo q.
-fn add_numbers(q: u64, n: usize, c: u8, m: &mut [u8], from: usize, to: usize)
-    requires t { T (is_field_size q) × (c < q) × Row q n (part n from m.old) × Row q n (part n to m.old) × Apart n from to }
-    requires n_in_bounds { (from + n ≤ length m.old) × (to + n ≤ length m.old) × (is_polynomial q ≡ false) }
-    ensures { m.new
-        ≡ put n to (plus_multiple q n c (part n from m.old) (part n to m.old)) m.old }
-{
-    let mut j = 0;
-    while j < n {
-        m[to + j] = field::add_product(q, m[to + j], c, m[from + j]);
-        j += 1;
+// The step of the loops over a row, in one kind of field. A loop is written once, and the compiler makes one of it for each kind.
+trait Arithmetic {
+    // The fields that it serves.
+    ghost serves: { ℕ → Type 0 };
+
+    // a + c·b.
+    fn add_product(q: u64, a: u8, c: u8, b: u8) -> u8
+        requires { T (is_field_size q) × serves q × (a < q) × (c < q) × (b < q) }
+        ensures { result ≡ sum q a (product q c b) };
+}
+
+// Numbers modulo q.
+struct Numbers;
+
+impl Arithmetic for Numbers {
+    ghost serves = { λ q. is_polynomial q ≡ false };
+
+    fn add_product(q: u64, a: u8, c: u8, b: u8) -> u8 {
+        field::add_product(q, a, c, b)
     }
 }
 
-// The same of polynomials; the two rows may be one.
-fn add_polynomials(q: u64, n: usize, c: u8, m: &mut [u8], from: usize, to: usize)
-    requires t { T (is_field_size q) × (c < q) × Row q n (part n from m.old) × Row q n (part n to m.old)
+// Polynomials, in four and eight.
+struct Polynomials;
+
+impl Arithmetic for Polynomials {
+    ghost serves = { λ q. T (is_polynomial q) };
+
+    fn add_product(q: u64, a: u8, c: u8, b: u8) -> u8 {
+        field::add_polynomial(q, a, c, b)
+    }
+}
+
+// Adds c times the row at `from` to the row at `to`, which may be the same.
+fn add<A: Arithmetic>(q: u64, n: usize, c: u8, m: &mut [u8], from: usize, to: usize)
+    requires t { T (is_field_size q) × A.serves q × (c < q) × Row q n (part n from m.old) × Row q n (part n to m.old)
         × (Apart n from to ⊎ (from ≡ to)) }
-    requires n_in_bounds { (from + n ≤ length m.old) × (to + n ≤ length m.old) × T (is_polynomial q) }
+    requires n_in_bounds { (from + n ≤ length m.old) × (to + n ≤ length m.old) }
     ensures { m.new
         ≡ put n to (plus_multiple q n c (part n from m.old) (part n to m.old)) m.old }
 {
-    let mut j = 0;
-    while j < n {
-        m[to + j] = field::add_polynomial(q, m[to + j], c, m[from + j]);
-        j += 1;
+    for j in 0..n {
+        m[to + j] = A::add_product(q, m[to + j], c, m[from + j]);
     }
 }
 
@@ -44,9 +61,9 @@ fn add_scaled(q: u64, n: usize, c: u8, m: &mut [u8], from: usize, to: usize)
         ≡ put n to (plus_multiple q n c (part n from m.old) (part n to m.old)) m.old }
 {
     if field::is_polynomial(q) {
-        add_polynomials(q, n, c, m, from, to);
+        add::<Polynomials>(q, n, c, m, from, to);
     } else {
-        add_numbers(q, n, c, m, from, to);
+        add::<Numbers>(q, n, c, m, from, to);
     }
 }
 
@@ -65,29 +82,14 @@ pub fn eliminate(q: u64, n: usize, p: usize, m: &mut [u8], from: usize, to: usiz
     }
 }
 
-// Writes `row` plus c times m's first row to the place `to` of m, modulo q.
-fn enter_numbers(q: u64, n: usize, c: u8, row: &[u8], m: &mut [u8], to: usize)
-    requires t { T (is_field_size q) × (c < q) × Row q n row.now × Row q n (part n 0 m.old) × (n ≤ to) × (to + n ≤ length m.old) }
-    requires q_value { is_polynomial q ≡ false }
+// Writes `row` plus c times m's first row to the place `to` of m.
+fn enter_sum<A: Arithmetic>(q: u64, n: usize, c: u8, row: &[u8], m: &mut [u8], to: usize)
+    requires t { T (is_field_size q) × A.serves q × (c < q) × Row q n row.now × Row q n (part n 0 m.old) }
+    requires n_in_bounds { (n ≤ to) × (to + n ≤ length m.old) }
     ensures { m.new ≡ put n to (plus_multiple q n c (part n 0 m.old) row.now) m.old }
 {
-    let mut j = 0;
-    while j < n {
-        m[to + j] = field::add_product(q, row[j], c, m[j]);
-        j += 1;
-    }
-}
-
-// The same of polynomials.
-fn enter_polynomials(q: u64, n: usize, c: u8, row: &[u8], m: &mut [u8], to: usize)
-    requires t { T (is_field_size q) × (c < q) × Row q n row.now × Row q n (part n 0 m.old) × (n ≤ to) × (to + n ≤ length m.old) }
-    requires t_2 { T (is_polynomial q) }
-    ensures { m.new ≡ put n to (plus_multiple q n c (part n 0 m.old) row.now) m.old }
-{
-    let mut j = 0;
-    while j < n {
-        m[to + j] = field::add_polynomial(q, row[j], c, m[j]);
-        j += 1;
+    for (j, entry) in row.iter().enumerate() {
+        m[to + j] = A::add_product(q, *entry, c, m[j]);
     }
 }
 
@@ -99,33 +101,23 @@ pub fn enter(q: u64, n: usize, p: usize, row: &[u8], m: &mut [u8], to: usize)
 {
     let c = field::negate(q, row[p]);
     if field::is_polynomial(q) {
-        enter_polynomials(q, n, c, row, m, to);
+        enter_sum::<Polynomials>(q, n, c, row, m, to);
     } else {
-        enter_numbers(q, n, c, row, m, to);
+        enter_sum::<Numbers>(q, n, c, row, m, to);
     }
 }
 
-// Multiplies v by c, modulo q.
-fn scale_numbers(q: u64, n: usize, c: u8, v: &mut [u8])
-    requires { T (is_field_size q) × (c < q) × Row q n v.old × (is_polynomial q ≡ false) }
-    ensures { v.new ≡ multiple q n c v.old }
-{
-    let mut j = 0;
-    while j < n {
-        v[j] = field::add_product(q, 0, c, v[j]);
-        j += 1;
-    }
-}
-
-// The same in any field. Of polynomials c times v is v and c + 1 times v, as 1 + 1 is 0.
+// Multiplies v by c. Of polynomials c times v is v and c + 1 times v, as 1 + 1 is 0: they need no loop of their own.
 fn scale(q: u64, n: usize, c: u8, v: &mut [u8])
     requires { T (is_field_size q) × (c < q) × Row q n v.old }
     ensures { v.new ≡ multiple q n c v.old }
 {
     if field::is_polynomial(q) {
-        add_polynomials(q, n, c ^ 1, v, 0, 0);
-    } else {
-        scale_numbers(q, n, c, v);
+        add::<Polynomials>(q, n, c ^ 1, v, 0, 0);
+        return;
+    }
+    for entry in v.iter_mut() {
+        *entry = field::add_product(q, 0, c, *entry);
     }
 }
 
@@ -146,13 +138,8 @@ fn swap(n: usize, m: &mut [u8], at: usize)
     requires { at + n + n ≤ length m.old }
     ensures { m.new ≡ swapped n at m.old }
 {
-    let mut j = 0;
-    while j < n {
-        let above = m[at + j];
-        m[at + j] = m[at + n + j];
-        m[at + n + j] = above;
-        j += 1;
-    }
+    let (above, below) = m.split_at_mut(at + n);
+    above[at..].swap_with_slice(&mut below[..n]);
 }
 
 // Moves row d up to row `at`, and the rows between one down.
@@ -160,9 +147,7 @@ pub fn raise(n: usize, d: usize, at: usize, m: &mut [u8])
     requires { (at ≤ d) × (d * n + n ≤ length m.old) }
     ensures { m.new ≡ raised n (d * n) (at * n) m.old }
 {
-    let mut i = d;
-    while i > at {
-        i -= 1;
+    for i in (at..d).rev() {
         swap(n, m, i * n);
     }
 }

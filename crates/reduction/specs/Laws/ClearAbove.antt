@@ -67,11 +67,12 @@ module _ (q n d : ℕ) (m w : List ℕ) where
           ∙ ap₂ (λ x y. x ++ y) (sym (c.bytes ∙ ap (λ x. take (i * n) now ++ x) e ∙ append-nil (take (i * n) now))) c.same,
     )
 
-    pub clearing-end : i ≡ d → (i ≡ above n (rows_of n d m) w) × (now ≡ join (cleared q n (rows_of n d m) w) ++ drop (i * n) m)
+    pub clearing-end : i ≡ d → (d ≡ above n (rows_of n d m) w) × (now ≡ join (cleared q n (rows_of n d m) w) ++ drop (d * n) m)
     unfolding cleared above join
     clearing-end e =
         let none : rows_from n d m i ≡ [] = rows_none n m d i e in
-        stopped (ap (λ x. join (cleared q n x w)) none) (ap (λ x. above n x w) none)
+        let done = stopped (ap (λ x. join (cleared q n x w)) none) (ap (λ x. above n x w) none) in
+        (sym e ∙ done.0, done.1 ∙ ap (λ x. join (cleared q n (rows_of n d m) w) ++ drop (x * n) m) e)
 
     -- what lies at row i or later is as it was
     pub clearing-rest : (k at : ℕ) → i * n ≤ at → part k at now ≡ part k at m

@@ -1,19 +1,20 @@
 -- A row v taken into d reduced rows, with its residue in the place after them; no part of the meaning. The bytes after that are 0.
 --   residue-is-row, monic-is-row == the residue is a row, and so is it scaled
 --   left-lead     == the lead of what is left in row d is the residue's
+--   left-zero, left-nonzero, left-asks == it tells whether the residue is zero; what scaling asks, where it is not
 --   scaled-is     == what dividing it by its first entry leaves
 --   insert-same   == where the residue is zero the rows stay, with zeros after them
---   scaled-rows, scaled-part, scaled-lead == the rows and row d once the residue is scaled
+--   scaled-rows, scaled-part, scaled-lead, scaled-asks == the rows and row d once the residue is scaled
 --   insert-among == where the residue is not zero, it is put among the rows, scaled
 -- Assumes nothing.
-use Rattle.std.specs.Prelude.{◌≡◌, List, ◌++◌, ℕ, ◌+◌, ◌*◌, ◌-◌, ◌≤◌, get_or, drop}
+use Rattle.std.specs.Prelude.{◌≡◌, List, ◌++◌, ℕ, ◌+◌, ◌*◌, ◌-◌, ◌≤◌, ◌<◌, get_or, drop}
 use Rattle.std.proofs.Math.Path.{ap, ap₂, sym}
 use Rattle.std.proofs.Common.{◌∙◌, arith, drop-drop, ext_get_or}
 use Rattle.std.proofs.Math.ListN.{length, take, replicate}
 use Rattle.std.proofs.lemmas.List.{length-replicate, get_or-replicate, replicate-append-replicate}
 use Rattle.field.specs.FieldLaws.{Laws}
 use Rattle.matrix.specs.Matrix.{lead}
-use Rattle.linear.specs.Span.{Row, rows_of}
+use Rattle.linear.specs.Span.{All, Row, rows_of}
 use Rattle.linear.specs.Eliminate.{lead_of, residue, monic, put_among, insert_row, join}
 use Rattle.linear.specs.Laws.Elimination.{monic-row}
 use Rattle.linear.specs.Laws.FlatMatrix.{rows-length, join-length}
@@ -24,7 +25,7 @@ use Rattle.matrix.specs.Laws.Lead.{lead-before}
 use Rattle.linear.specs.Laws.ReducedRows.{rows-sized}
 use Rattle.linear.specs.Laws.RowLead.{lead_of-le}
 use Rattle.reduction.specs.Padded.{padded}
-use Rattle.rows.specs.Laws.Puts.{part-put, rows-put, after-put, put-put}
+use Rattle.rows.specs.Laws.Puts.{put-length, part-put, rows-put, after-put, put-put}
 use Rattle.reduction.specs.Laws.PutAmong.{put_among-length}
 use Rattle.rows.specs.Laws.Steps.{part, put}
 
@@ -61,6 +62,21 @@ module _ (q : ℕ) (laws : Laws q) (n d : ℕ) (m : List ℕ) (fits : d * n + n 
     pub left-lead : lead (λ j. get_or now (d * n + j) 0) n ≡ lead_of n left
     left-lead = lead-part n now (d * n) ∙ ap (lead_of n) left-part
 
+    -- p is its lead as the code finds it
+    module _ (p : ℕ) (lead_is : p ≡ lead (λ j. get_or now (d * n + j) 0) n) where
+      pub left-zero : p ≡ n → lead_of n left ≡ n
+      left-zero e = sym left-lead ∙ sym lead_is ∙ e
+
+      module _ (other : p ≡ n → ⊥) where
+        pub left-nonzero : lead_of n left ≡ n → ⊥
+        left-nonzero e = other (lead_is ∙ left-lead ∙ e)
+
+        pub left-asks : (k : ℕ) → k ≡ n
+            → Row q n (take k (drop (d * n) now)) × (p ≡ lead_of n (take k (drop (d * n) now))) × (p < n)
+        left-asks k e =
+            let here : take k (drop (d * n) now) ≡ left = ap (λ x. take x (drop (d * n) now)) e ∙ left-part in
+            rw here (residue-is-row, lead_is ∙ left-lead, omega (arith, lead_is, left-lead, lead_of-le q laws n left))
+
     -- the row divided by its first entry that is not 0, as it is written back
     pub scaled-is : (k : ℕ) → k ≡ n → (new : List ℕ) → new ≡ monic q n (take k (drop (d * n) now))
         → take (d * n) now ++ (new ++ drop k (drop (d * n) now)) ≡ put n (d * n) (monic q n left) m
@@ -90,6 +106,13 @@ module _ (q : ℕ) (laws : Laws q) (n d : ℕ) (m : List ℕ) (fits : d * n + n 
 
     pub scaled-part : part n (d * n) now ≡ monic q n left
     scaled-part = ap (part n (d * n)) is ∙ part-put n (d * n) (monic q n left) m monic-is-row.0 fits
+
+    pub scaled-asks : (d * n + n ≤ length now) × All (Row q n) (rows_of n d now) × Row q n (part n (d * n) now)
+    scaled-asks = (
+      omega (arith, ap length is, put-length n (d * n) (monic q n left) m monic-is-row.0 fits),
+      rw scaled-rows kept.rows,
+      rw scaled-part monic-is-row,
+    )
 
     module _ (nonzero : lead_of n left ≡ n → ⊥) where
       pub scaled-lead : lead_of n left ≡ lead_of n (part n (d * n) now)
