@@ -33,11 +33,9 @@ fn larger(q: u64, n: usize, k: usize, m: usize) -> u64
 {
     let begin = partitions::box_begin(n, k);
     let limit = k * (n - k);
-    let mut sum: u64 = 0;
-    for i in (m + 1..limit + 1).rev() {
-        sum += weight(q, n, k, begin, limit, i);
-    }
-    sum
+    (m + 1..=limit)
+        .map(|i| weight(q, n, k, begin, limit, i))
+        .sum()
 }
 
 // The number of dots of a reduced matrix's diagram; v is the identifying vector, whose bit j is that of the column j from the right, from 0.
