@@ -22,25 +22,23 @@ fn ones_below(v: u16, j: usize) -> usize
     u16::count_ones(v & ((1u32 << j) - 1) as u16) as usize
 }
 
-// The extended index of a reduced matrix, by formula (5), column by column from the right; v is the identifying vector. `rows` is k less
-// document 01's w, which changes at a pivot alone.
+// The extended index of a reduced matrix, by formula (5), column by column from the right, where j counts from 0; v is the identifying
+// vector. `rows` is k less document 01's w, which changes at a pivot alone.
 pub fn rank(m: &[u8], q: u64, n: usize, k: usize, v: u16) -> ExtendedIndex
     requires { Accepted q n k × Reduced q n k m.now × (v ≡ identifying n k m.now) }
     ensures { result.0 ≡ extended_index q n k m.now }
 {
     let mut index: u64 = 0;
     let mut rows = k;
-    let mut left = n;
-    while left > 0 {
-        let column = left - 1;
-        if matrix::pivot_at(v, n - left) {
+    for j in 0..n {
+        let column = n - 1 - j;
+        if matrix::pivot_at(v, j) {
             index += counts::free_count(q, column as u64, rows as u64);
-            rows = k - ones_below(v, n - column);
+            rows = k - ones_below(v, j + 1);
         } else {
             index += matrix::append_digits(0, m, q, n, column, rows)
                 * counts::coefficient(q, column as u64, rows as u64);
         }
-        left -= 1;
     }
     ExtendedIndex(index)
 }
@@ -57,22 +55,19 @@ pub fn unrank(m: &mut [u8], q: u64, n: usize, k: usize, index: ExtendedIndex) ->
     let mut v: u16 = 0;
     let mut rest = index.0;
     let mut rows = k;
-    let mut columns = n;
-    while columns > 0 {
-        let c = columns - 1;
+    for c in (0..n).rev() {
         let each = counts::coefficient(q, c as u64, rows as u64);
         let free = counts::free_of(q, c as u64, rows as u64, each);
         if rest < free {
             let value = rest / each;
-            rest = rest % each;
+            rest %= each;
             matrix::write_digits(m, q, n, k, c, rows, value);
         } else {
             matrix::write_pivot(m, n, k, c, rows - 1);
             v = matrix::add_pivot(v, n, c);
-            rest = rest - free;
-            rows = rows - 1;
+            rest -= free;
+            rows -= 1;
         }
-        columns = c;
     }
     v
 }

@@ -33,30 +33,24 @@ fn larger(q: u64, n: usize, k: usize, m: usize) -> u64
 {
     let begin = partitions::box_begin(n, k);
     let limit = k * (n - k);
-    let mut sum: u64 = 0;
-    let mut i = limit;
-    while i > m {
-        sum += weight(q, n, k, begin, limit, i);
-        i -= 1;
-    }
-    sum
+    (m + 1..=limit)
+        .map(|i| weight(q, n, k, begin, limit, i))
+        .sum()
 }
 
-// The number of dots of a reduced matrix's diagram; v is the identifying vector.
+// The number of dots of a reduced matrix's diagram; v is the identifying vector, whose bit j is that of the column j from the right, from 0.
 fn size_of(m: &[u8], n: usize, k: usize, v: u16) -> usize
     requires { (n ≤ 16) × ((q : ℕ) × Reduced q n k m.now) × (v ≡ identifying n k m.now) }
     ensures { result ≡ size n k m.now }
 {
     let mut dots = 0;
     let mut rows = k;
-    let mut c = n;
-    while c > 0 {
-        if matrix::pivot_at(v, n - c) {
+    for j in 0..n {
+        if matrix::pivot_at(v, j) {
             rows -= 1;
         } else {
             dots += rows;
         }
-        c -= 1;
     }
     dots
 }
@@ -69,15 +63,13 @@ fn place_of(m: &[u8], q: u64, n: usize, k: usize, v: u16, total: usize) -> u64
     let mut place: u64 = 0;
     let mut left = total;
     let mut rows = k;
-    let mut c = n;
-    while c > 0 {
-        if matrix::pivot_at(v, n - c) {
-            place += partitions::free_boxes(c - 1, rows, left);
+    for j in 0..n {
+        if matrix::pivot_at(v, j) {
+            place += partitions::free_boxes(n - 1 - j, rows, left);
             rows -= 1;
         } else {
             left -= rows;
         }
-        c -= 1;
     }
     place
 }
@@ -90,15 +82,13 @@ fn tableau_of(m: &[u8], q: u64, n: usize, k: usize, v: u16) -> u64
 {
     let mut tableau: u64 = 0;
     let mut rows = k;
-    let mut c = n;
-    while c > 0 {
-        if matrix::pivot_at(v, n - c) {
+    for j in 0..n {
+        if matrix::pivot_at(v, j) {
             rows -= 1;
         } else {
-            let column = matrix::append_digits(0, m, q, n, c - 1, rows);
+            let column = matrix::append_digits(0, m, q, n, n - 1 - j, rows);
             tableau = tableau * counts::power(q, rows) + column;
         }
-        c -= 1;
     }
     tableau
 }
@@ -116,7 +106,7 @@ pub fn rank(m: &[u8], q: u64, n: usize, k: usize, v: u16) -> FerrersIndex
 }
 
 // The number of dots of a diagram, and an index among the matrices whose diagrams have so many.
-#[derive(Drop)]
+#[derive(Clone, Copy)]
 struct SizedIndex {
     size: usize,
     rest: u64,
@@ -129,15 +119,13 @@ fn find_size(q: u64, n: usize, k: usize, index: u64) -> SizedIndex
 {
     let begin = partitions::box_begin(n, k);
     let limit = k * (n - k);
-    let mut m = limit;
     let mut rest = index;
-    while m > 0 {
+    for m in (1..=limit).rev() {
         let count = weight(q, n, k, begin, limit, m);
         if rest < count {
             return SizedIndex { size: m, rest };
         }
         rest -= count;
-        m -= 1;
     }
     SizedIndex { size: 0, rest }
 }
@@ -152,9 +140,7 @@ fn vector_at(n: usize, k: usize, size: usize, place: u64) -> u16
     let mut dots = size;
     let mut earlier = place;
     let mut rows = k;
-    let mut columns = n;
-    while columns > 0 {
-        let c = columns - 1;
+    for c in (0..n).rev() {
         let free = partitions::free_boxes(c, rows, dots);
         if earlier < free {
             dots -= rows;
@@ -163,7 +149,6 @@ fn vector_at(n: usize, k: usize, size: usize, place: u64) -> u16
             earlier -= free;
             rows -= 1;
         }
-        columns = c;
     }
     v
 }
@@ -177,15 +162,13 @@ fn draw(m: &mut [u8], q: u64, n: usize, k: usize, v: u16, tableau: u64)
     matrix::clear(m);
     let mut entries = tableau;
     let mut rows = 0;
-    let mut c = 0;
-    while c < n {
+    for c in 0..n {
         if matrix::pivot_at(v, n - 1 - c) {
             matrix::write_pivot(m, n, k, c, rows);
             rows += 1;
         } else {
             entries = matrix::write_digits(m, q, n, k, c, rows, entries);
         }
-        c += 1;
     }
 }
 
