@@ -5,27 +5,29 @@
 --   answer-told      == the number and the index that an answer of Number or Convert tells
 --   number-told      == those of Number's
 -- Assumes nothing.
-use Rattle.std.specs.Prelude.{◌≡◌, refl, true, false, ℕ, ◌*◌, ◌<◌, eqb, length}
+use Rattle.std.specs.Prelude.{◌≡◌, refl, true, false, ℕ, ◌*◌, ◌<◌, eqb, length, Result, Ok, Err}
 use Rattle.std.proofs.Math.Path.{ap, sym}
 use Rattle.std.proofs.Common.{◌∙◌, subst, arith, eq-eqb, ne_eqb}
 use mathlib.Core.List.{List, []}
 use Rattle.basics.specs.Laws.Choice.{holds, is_true}
-use Rattle.refusal.specs.Refusal.{length_refusal, entry_refusal, not_reduced_refusal, unless_refused}
+use Rattle.refusal.specs.Refusal.{length_refusal, entry_refusal, not_reduced_refusal, unless_refused, number, named}
 use Rattle.refusal.specs.Laws.First.{first-refused, first-passed, test-refused, test-passed, first-none}
-use Rattle.refusal.specs.Laws.First.{kept, done, told-number, told-value}
+use Rattle.refusal.specs.Laws.First.{done, refused, told-number, told-value, Known, known-none, known-test, known-first}
 use Rattle.matrix.specs.Matrix.{entries_below, is_reduced, Reduced}
 use Rattle.matrix.specs.Laws.Tests.{entries-below-true, reduced-exactly}
 use Rattle.numbering.specs.Numbering.{choice_refusal, index_of, index_in}
 use Rattle.numbering.specs.Laws.Either.{typed-value}
+use Rattle.numbering.specs.Laws.Chosen.{choice-known}
 use Rattle.number.specs.Number.{entries_refusal, number_refusal, answer_of, number_of, answer_number, answer_index}
-use Rattle.number.specs.declared.Numbered.{Numbered}
-use Rattle.number.specs.declared.Numbered.TheVariants.{Done, Refused}
+use Rattle.numbering.specs.declared.Index.{Index}
+use Rattle.refusal.specs.declared.Refusal.{Refusal}
+use Rattle.refusal.specs.declared.Refusal.TheVariants.{Length, Entry, NotReduced}
 
-pub answer-told : (refusal t i : ℕ) (r : Numbered) → r ≡ answer_of refusal t i
+pub answer-told : (refusal t i : ℕ) (r : Result Index Refusal) → Known refusal → r ≡ answer_of refusal t i
     → (answer_number r ≡ refusal) × (answer_index r ≡ unless_refused refusal i 0)
-answer-told refusal t i r e = (
-  ap answer_number e ∙ told-number refusal (Done (index_in t i)) (Refused refusal) answer_number refl refl,
-  ap answer_index e ∙ told-value refusal (Done (index_in t i)) (Refused refusal) answer_index i (typed-value t i) refl,
+answer-told refusal t i r k e = (
+  ap answer_number e ∙ told-number refusal (Ok (index_in t i)) (Err (named refusal)) answer_number refl k,
+  ap answer_index e ∙ told-value refusal (Ok (index_in t i)) (Err (named refusal)) answer_index i (typed-value t i) refl,
 )
 
 module _ (q n k t : ℕ) (m : List ℕ) where
@@ -69,15 +71,23 @@ module _ (q n k t : ℕ) (m : List ℕ) where
       let below = entries-below-true q m (λ place h. R.below place (subst (λ size. place < size) R.size h)) in
       number-unrefused (entries-unrefused c R.size below) (is_true _ ((reduced-exactly q n k m R.size (holds _ below)).1 R))
 
-  pub reduced-numbered : choice_refusal q n k t ≡ 0 → Reduced q n k m → number_of q n k t m ≡ Done (index_in t (index_of q n k t m))
+  pub reduced-numbered : choice_refusal q n k t ≡ 0 → Reduced q n k m → number_of q n k t m ≡ Ok (index_in t (index_of q n k t m))
   unfolding number_of
   reduced-numbered c R = sym (done _ _ _ (reduced-unrefused c R))
 
-  pub number-told : (r : Numbered) → r ≡ number_of q n k t m
+  number-known : Known (number_refusal q n k t m)
+  unfolding number_refusal entries_refusal
+  number-known =
+      known-first _ _
+      (known-first _ _ (choice-known q n k t)
+      (known-first _ _ (known-test _ Length) (known-first _ _ (known-test _ Entry) known-none)))
+      (known-first _ _ (known-test _ NotReduced) known-none)
+
+  pub number-told : (r : Result Index Refusal) → r ≡ number_of q n k t m
       → (answer_number r ≡ number_refusal q n k t m) × (answer_index r ≡ unless_refused (number_refusal q n k t m) (index_of q n k t m) 0)
   unfolding number_of
-  number-told r e = answer-told (number_refusal q n k t m) t (index_of q n k t m) r e
+  number-told r e = answer-told (number_refusal q n k t m) t (index_of q n k t m) r number-known e
 
-  pub number-refused : {r : ℕ} → number_refusal q n k t m ≡ r → (r ≡ 0 → ⊥) → Refused r ≡ number_of q n k t m
+  pub number-refused : (r : Refusal) → number r ≡ number_refusal q n k t m → Err r ≡ number_of q n k t m
   unfolding number_of
-  number-refused {r} e z = ap Refused (sym e) ∙ kept _ _ _ (λ o. z (sym e ∙ o))
+  number-refused r e = refused (number_refusal q n k t m) (index_in t (index_of q n k t m)) r e

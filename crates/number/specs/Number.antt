@@ -6,12 +6,12 @@
 --   number_of       == what Number answers
 --   answer_number, answer_index == document 01's refusal number and index of each case of an answer
 -- Assumes nothing.
-use Rattle.std.specs.Prelude.{List, [], ◌∷◌, ℕ, ◌*◌, eqb, length}
-use Rattle.refusal.specs.Refusal.{length_refusal, entry_refusal, not_reduced_refusal, refuse_unless, first, unless_refused}
+use Rattle.std.specs.Prelude.{List, [], ◌∷◌, ℕ, ◌*◌, eqb, length, Result, Ok, Err}
+use Rattle.refusal.specs.Refusal.{length_refusal, entry_refusal, not_reduced_refusal, refuse_unless, first, number, answered}
+use Rattle.refusal.specs.declared.Refusal.{Refusal}
 use Rattle.matrix.specs.Matrix.{entries_below, is_reduced}
 use Rattle.numbering.specs.Numbering.{choice_refusal, index_of, index_in, index_value}
-use Rattle.number.specs.declared.Numbered.{Numbered}
-use Rattle.number.specs.declared.Numbered.TheVariants.{Done, Refused}
+use Rattle.numbering.specs.declared.Index.{Index}
 
 unfoldable pub entries_refusal : ℕ → ℕ → ℕ → ℕ → List ℕ → ℕ
 entries_refusal q n k t m =
@@ -24,16 +24,16 @@ entries_refusal q n k t m =
 unfoldable pub number_refusal : ℕ → ℕ → ℕ → ℕ → List ℕ → ℕ
 number_refusal q n k t m = first (entries_refusal q n k t m ∷ refuse_unless (is_reduced n k m) not_reduced_refusal ∷ [])
 
-abbrev pub answer_of : ℕ → ℕ → ℕ → Numbered
-answer_of refusal t i = unless_refused refusal (Done (index_in t i)) (Refused refusal)
+abbrev pub answer_of : ℕ → ℕ → ℕ → Result Index Refusal
+answer_of refusal t i = answered refusal (index_in t i)
 
-unfoldable pub number_of : ℕ → ℕ → ℕ → ℕ → List ℕ → Numbered
+unfoldable pub number_of : ℕ → ℕ → ℕ → ℕ → List ℕ → Result Index Refusal
 number_of q n k t m = answer_of (number_refusal q n k t m) t (index_of q n k t m)
 
-abbrev pub answer_number : Numbered → ℕ
-answer_number (Done i) = 0
-answer_number (Refused r) = r
+abbrev pub answer_number : Result Index Refusal → ℕ
+answer_number (Ok i) = 0
+answer_number (Err r) = number r
 
-abbrev pub answer_index : Numbered → ℕ
-answer_index (Done i) = index_value i
-answer_index (Refused r) = 0
+abbrev pub answer_index : Result Index Refusal → ℕ
+answer_index (Ok i) = index_value i
+answer_index (Err r) = 0

@@ -7,33 +7,24 @@ ghost use Rattle.numbering.specs.Numbering.{index_of};
 ghost use Rattle.number.specs.Number.{number_refusal, number_of, answer_number, answer_index};
 
 use numbering::Index;
-
-// What Number and Convert answer: an index of the numbering that was asked for, or the refusal.
-#[derive(Drop)]
-pub enum Numbered {
-    Done(Index),
-    Refused(u32),
-}
+use refusal::Refusal;
 
 // Number: the index of a reduced matrix in the numbering t. Refuses 1, 2, 3, 10, 4 (not exactly k×n bytes), 6, 7.
-pub fn number(q: u64, n: u64, k: u64, t: u64, matrix: &[u8]) -> Numbered
+pub fn number(q: u64, n: u64, k: u64, t: u64, matrix: &[u8]) -> Result<Index, Refusal>
     ensures value { result ≡ number_of q n k t matrix.now }
     ensures result_value { (answer_number result ≡ number_refusal q n k t matrix.now)
         × (answer_index result ≡ unless_refused (number_refusal q n k t matrix.now) (index_of q n k t matrix.now) 0) }
 {
-    let choice = numbering::choice_refusal(q, n, k, t);
-    if choice != 0 {
-        return Numbered::Refused(choice);
-    }
+    let numbering = numbering::check(q, n, k, t)?;
     if matrix.len() as u64 != k * n {
-        return Numbered::Refused(refusal::LENGTH);
+        return Err(Refusal::Length);
     }
     let walked = walk::rows(matrix, n as usize, k as usize);
     if walked.oversized(q) {
-        return Numbered::Refused(refusal::ENTRY);
+        return Err(Refusal::Entry);
     }
     if !walked.reduced {
-        return Numbered::Refused(refusal::NOT_REDUCED);
+        return Err(Refusal::NotReduced);
     }
-    Numbered::Done(numbering::rank(matrix, q, n as usize, k as usize, t, walked.vector))
+    Ok(numbering::rank(matrix, q, n as usize, k as usize, numbering, walked.vector))
 }

@@ -4,20 +4,22 @@
 --   convert-done     == what Convert then answers
 --   convert-told     == the number and the index that an answer of Convert tells
 -- Assumes nothing.
-use Rattle.std.specs.Prelude.{◌≡◌, true, ℕ, ◌<◌, ltb}
+use Rattle.std.specs.Prelude.{◌≡◌, true, ℕ, ◌<◌, ltb, Result, Ok}
 use Rattle.std.proofs.Common.{◌∙◌}
 use Rattle.std.proofs.Math.Path.{sym}
 use mathlib.Core.List.{[], ◌∷◌}
 use borrow.Author.Tests.{lt-ltb, ltb-true}
 use Rattle.refusal.specs.Refusal.{refuse_unless, index_refusal, numbering_refusal, unless_refused}
 use Rattle.refusal.specs.Laws.First.{first-zero, first-passed, test_zero, test-passed, first-none, done}
+use Rattle.refusal.specs.Laws.First.{Known, known-none, known-test, known-first}
 use Rattle.counts.specs.Gaussian.{gaussian}
 use Rattle.numbering.specs.Numbering.{is_numbering, choice_refusal, index_of, index_in, drawn}
-use Rattle.numbering.specs.Laws.Chosen.{Chosen, chosen}
+use Rattle.numbering.specs.Laws.Chosen.{Chosen, chosen, choice-known}
 use Rattle.number.specs.Number.{answer_number, answer_index}
 use Rattle.number.proofs.NumberAccepted.{answer-told}
-use Rattle.number.specs.declared.Numbered.{Numbered}
-use Rattle.number.specs.declared.Numbered.TheVariants.{Done}
+use Rattle.refusal.specs.declared.Refusal.{Refusal}
+use Rattle.refusal.specs.declared.Refusal.TheVariants as refusals
+use Rattle.numbering.specs.declared.Index.{Index}
 use Rattle.convert.specs.Convert.{convert_refusal, convert_of}
 
 pub record ConvertAccepted (q n k from to i : ℕ) : Type 0 where
@@ -44,12 +46,18 @@ module _ (q n k from to i : ℕ) where
       first-passed _ _ c ∙ test-passed _ _ _ b ∙ test-passed _ _ _ (lt-ltb i (gaussian q n k) h) ∙ first-none
 
   pub convert-done : convert_refusal q n k from to i ≡ 0
-      → convert_of q n k from to i ≡ Done (index_in to (index_of q n k to (drawn q n k from i)))
+      → convert_of q n k from to i ≡ Ok (index_in to (index_of q n k to (drawn q n k from i)))
   unfolding convert_of
   convert-done e = sym (done _ _ _ e)
 
-  pub convert-told : (r : Numbered) → r ≡ convert_of q n k from to i
+  convert-known : Known (convert_refusal q n k from to i)
+  unfolding convert_refusal
+  convert-known =
+      known-first _ _ (choice-known q n k from)
+      (known-first _ _ (known-test _ refusals.Numbering) (known-first _ _ (known-test _ refusals.Index) known-none))
+
+  pub convert-told : (r : Result Index Refusal) → r ≡ convert_of q n k from to i
       → (answer_number r ≡ convert_refusal q n k from to i)
       × (answer_index r ≡ unless_refused (convert_refusal q n k from to i) (index_of q n k to (drawn q n k from i)) 0)
   unfolding convert_of
-  convert-told r e = answer-told (convert_refusal q n k from to i) to (index_of q n k to (drawn q n k from i)) r e
+  convert-told r e = answer-told (convert_refusal q n k from to i) to (index_of q n k to (drawn q n k from i)) r convert-known e
