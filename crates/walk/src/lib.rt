@@ -54,11 +54,10 @@ impl Walk {
         requires { n ≤ 16 }
         ensures { result ≡ extends_by n self zeros }
     {
-        self.reduced
-            && zeros / 2 < n
-            && zeros % 2 == 0
-            && self.least <= zeros / 2
-            && (self.code >> zeros) % 4 == 0
+        if !self.reduced || n <= zeros / 2 {
+            return false;
+        }
+        zeros % 2 == 0 && self.least <= zeros / 2 && (self.code >> zeros) % 4 == 0
     }
 
     // The least number above the entries of the rows and of one more.
