@@ -2,10 +2,12 @@
 --   Orderly N q n k == the numbering N: every index below the count has its own reduced matrix, and the matrices rise with it
 --   either          == both are so
 --   is-extended, is-ferrers == which of the two it is
+--   chose-extended, chose-ferrers == the same, of a numbering's number
+--   code-known      == it is one of the two
 --   typed-value     == the number of an index is the one it was made of
 -- Assumes nothing.
 use Rattle.std.specs.Prelude.{◌≡◌, refl, Bool, true, false, List, ℕ, ◌<◌, eqb}
-use Rattle.std.proofs.Common.{eq-eqb, ne_eqb}
+use Rattle.std.proofs.Common.{arith, ap, eq-eqb, ne_eqb}
 use Rattle.basics.specs.Choice.{pick}
 use Rattle.field.specs.Laws.Small.{size_small}
 use Rattle.counts.specs.Gaussian.{gaussian}
@@ -14,7 +16,10 @@ use Rattle.settings.specs.Laws.Accepted.{accepted}
 use Rattle.matrix.specs.Matrix.{Reduced}
 use Rattle.extended.specs.Laws.Theorems as extended-theorems
 use Rattle.ferrers.proofs.Theorems as ferrers-theorems
-use Rattle.numbering.specs.Numbering.{extended, Numbering, extended_numbering, ferrers_numbering, numbering_of, index_in, index_value}
+use Rattle.numbering.specs.declared.Numbering.{Numbering as Choice}
+use Rattle.numbering.specs.declared.Numbering.TheVariants as choices
+use Rattle.numbering.specs.Numbering.{extended, is_numbering, code, Numbering, extended_numbering, ferrers_numbering, numbering_of}
+use Rattle.numbering.specs.Numbering.{index_in, index_value}
 
 pub record Orderly (N : Numbering) (q n k : ℕ) : Type 0 where
   pub drawn-reduced : (i : ℕ) → i < gaussian q n k → Reduced q n k (N.matrix q n k i)
@@ -30,6 +35,17 @@ is-extended t e = rw (eq-eqb t extended e)
 pub is-ferrers : (t : ℕ) → (t ≡ extended → ⊥) → ferrers_numbering ≡ numbering_of t
 unfolding numbering_of
 is-ferrers t e = rw (ne_eqb t extended e)
+
+pub chose-extended : (c : Choice) → c ≡ choices.Extended → extended_numbering ≡ numbering_of (code c)
+chose-extended c e = is-extended (code c) (ap code e)
+
+pub chose-ferrers : (c : Choice) → c ≡ choices.Ferrers → ferrers_numbering ≡ numbering_of (code c)
+chose-ferrers c e = is-ferrers (code c) (λ z. omega (arith, ap code e, z))
+
+pub code-known : (c : Choice) → is_numbering (code c) ≡ true
+unfolding is_numbering
+code-known choices.Extended = refl
+code-known choices.Ferrers = refl
 
 pub either : (q n k t : ℕ) → settings_refusal q n k ≡ 0 → Orderly (numbering_of t) q n k
 unfolding numbering_of
