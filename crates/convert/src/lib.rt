@@ -38,5 +38,5 @@ pub fn convert(q: u64, n: u64, k: u64, from: u64, to: u64, index: u64) -> Result
         × (answer_index result ≡ unless_refused (convert_refusal q n k from to index) (index_of q n k to (drawn q n k from index)) 0) }
 {
     let (first, second) = check(q, n, k, from, to, index)?;
-    Ok(numbering::counterpart(q, n as usize, k as usize, first, second, index))
+    Ok(first.counterpart(second, q, n as usize, k as usize, index))
 }

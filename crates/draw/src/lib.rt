@@ -28,7 +28,7 @@ pub fn draw_index(
     if total <= index {
         return Err(Refusal::Index);
     }
-    numbering::unrank(matrix, q, n, k, t, index);
+    t.unrank(matrix, q, n, k, index);
     Ok(())
 }
 

@@ -26,5 +26,5 @@ pub fn number(q: u64, n: u64, k: u64, t: u64, matrix: &[u8]) -> Result<Index, Re
     if !walked.reduced {
         return Err(Refusal::NotReduced);
     }
-    Ok(numbering::rank(matrix, q, n as usize, k as usize, numbering, walked.vector))
+    Ok(numbering.rank(matrix, q, n as usize, k as usize, walked.vector))
 }

@@ -12,7 +12,7 @@ use Rattle.settings.specs.Settings.{settings_refusal}
 use Rattle.numbering.specs.Numbering.{is_numbering, index_in}
 use Rattle.numbering.specs.Laws.Either.{typed-value}
 use Rattle.number.specs.Number.{answer_index}
-use Rattle.number.specs.declared.Numbered.TheVariants.{Done}
+use Rattle.std.specs.Prelude.{Ok}
 use Rattle.convert.specs.Convert.{convert_of}
 use Rattle.promise_convert.specs.Conversion.{drawn-numbered, converted-as-numbered, done-index, there_and_back, Yields}
 
@@ -38,7 +38,7 @@ order-4 q n k from to settings first second =
     sized = length-replicate (k * n) 0
 
     answered : (from to : ℕ) → is_numbering from ≡ true → is_numbering to ≡ true
-        → (i : ℕ) → i < gaussian q n k → (j : ℕ) × (j < gaussian q n k) × (convert_of q n k from to i ≡ Done (index_in to j))
+        → (i : ℕ) → i < gaussian q n k → (j : ℕ) × (j < gaussian q n k) × (convert_of q n k from to i ≡ Ok (index_in to j))
     answered from to first second i h =
         let d = drawn-numbered q n k from to settings first second i h buffer sized in
         (d.0, d.2, converted-as-numbered q n k from to settings first second i h buffer sized ∙ d.3)
@@ -49,13 +49,13 @@ each-once q n k from to settings first second =
     counted-once (gaussian q n k) (λ i. answer_index (convert_of q n k from to i))
     (λ i h. let a = Y.below i h in subst (λ x. x < gaussian q n k) (sym (tells i a.0 a.2)) a.1)
     (λ j h. let a = Y.every j h in (a.0, a.1, tells a.0 j a.2))
-    (λ i j h g e. Y.once i j h g (done i h ∙ ap (λ x. Done (index_in to x)) e ∙ sym (done j g)))
+    (λ i j h g e. Y.once i j h g (done i h ∙ ap (λ x. Ok (index_in to x)) e ∙ sym (done j g)))
   where
     Y : Yields q n k from to
     Y = order-4 q n k from to settings first second
 
-    tells : (i j : ℕ) → convert_of q n k from to i ≡ Done (index_in to j) → answer_index (convert_of q n k from to i) ≡ j
+    tells : (i j : ℕ) → convert_of q n k from to i ≡ Ok (index_in to j) → answer_index (convert_of q n k from to i) ≡ j
     tells i j e = ap answer_index e ∙ typed-value to j
 
-    done : (i : ℕ) → i < gaussian q n k → convert_of q n k from to i ≡ Done (index_in to (answer_index (convert_of q n k from to i)))
-    done i h = let a = Y.below i h in a.2 ∙ ap (λ x. Done (index_in to x)) (sym (tells i a.0 a.2))
+    done : (i : ℕ) → i < gaussian q n k → convert_of q n k from to i ≡ Ok (index_in to (answer_index (convert_of q n k from to i)))
+    done i h = let a = Y.below i h in a.2 ∙ ap (λ x. Ok (index_in to x)) (sym (tells i a.0 a.2))

@@ -19,7 +19,7 @@ use Rattle.numbering.specs.Laws.Either.{either, typed-value}
 use Rattle.drawing.specs.Drawing.{drawing}
 use Rattle.drawing.specs.Laws.Draws.{draws}
 use Rattle.number.specs.Number.{number_of, answer_index}
-use Rattle.number.specs.declared.Numbered.TheVariants.{Done}
+use Rattle.std.specs.Prelude.{Ok}
 use Rattle.number.proofs.NumberAccepted.{reduced-numbered}
 use Rattle.convert.specs.Convert.{convert_of}
 use Rattle.convert.specs.Laws.ConvertAccepted.{convert-unrefused, convert-done}
@@ -29,7 +29,7 @@ pub drawn-numbered : (q n k from to : ℕ) → settings_refusal q n k ≡ 0 → 
     → (j : ℕ)
     × ((drawing q n k from).refusal i (length b) ≡ 0)
     × (j < gaussian q n k)
-    × (number_of q n k to ((drawing q n k from).leaves i b) ≡ Done (index_in to j))
+    × (number_of q n k to ((drawing q n k from).leaves i b) ≡ Ok (index_in to j))
 drawn-numbered q n k from to settings first second i h b sized = (
   index_of q n k to ((drawing q n k from).leaves i b),
   (draws q n k from settings first).done i h b sized,
@@ -42,7 +42,7 @@ drawn-numbered q n k from to settings first second i h b sized = (
 
 -- the answer by the definitions of the numberings
 answers : (q n k from to : ℕ) → settings_refusal q n k ≡ 0 → is_numbering from ≡ true → is_numbering to ≡ true
-    → (i : ℕ) → i < gaussian q n k → convert_of q n k from to i ≡ Done (index_in to (index_of q n k to (drawn q n k from i)))
+    → (i : ℕ) → i < gaussian q n k → convert_of q n k from to i ≡ Ok (index_in to (index_of q n k to (drawn q n k from i)))
 answers q n k from to settings first second i h =
     convert-done q n k from to i (convert-unrefused q n k from to i (unrefused q n k from settings first) second h)
 
@@ -55,11 +55,11 @@ converted-as-numbered q n k from to settings first second i h b sized =
     ∙ ap (number_of q n k to) ((draws q n k from settings first).given i h b sized)
 
 -- an answer tells one index
-pub done-index : (t i j : ℕ) → Done (index_in t i) ≡ Done (index_in t j) → i ≡ j
+pub done-index : (t i j : ℕ) → Ok (index_in t i) ≡ Ok (index_in t j) → i ≡ j
 done-index t i j e = sym (typed-value t i) ∙ ap answer_index e ∙ typed-value t j
 
 pub there_and_back : (q n k from to : ℕ) → settings_refusal q n k ≡ 0 → is_numbering from ≡ true → is_numbering to ≡ true
-    → (i j : ℕ) → i < gaussian q n k → convert_of q n k from to i ≡ Done (index_in to j) → convert_of q n k to from j ≡ Done (index_in from i)
+    → (i j : ℕ) → i < gaussian q n k → convert_of q n k from to i ≡ Ok (index_in to j) → convert_of q n k to from j ≡ Ok (index_in from i)
 there_and_back q n k from to settings first second i j h e =
     let m = drawn q n k from i in
     let there = either q n k to settings in
@@ -67,10 +67,10 @@ there_and_back q n k from to settings first second i j h e =
     let reduced = here.drawn-reduced i h in
     let same : index_of q n k to m ≡ j = done-index to _ j (sym (answers q n k from to settings first second i h) ∙ e) in
     answers q n k to from settings second first j (subst (λ x. x < gaussian q n k) same (there.index_below m reduced))
-    ∙ ap (λ x. Done (index_in from (index_of q n k from x))) (ap (drawn q n k to) (sym same) ∙ there.drawn-of-index m reduced)
-    ∙ ap (λ x. Done (index_in from x)) (here.index-of-drawn i h)
+    ∙ ap (λ x. Ok (index_in from (index_of q n k from x))) (ap (drawn q n k to) (sym same) ∙ there.drawn-of-index m reduced)
+    ∙ ap (λ x. Ok (index_in from x)) (here.index-of-drawn i h)
 
 pub record Yields (q n k from to : ℕ) : Type 0 where
-  pub below : (i : ℕ) → i < gaussian q n k → (j : ℕ) × (j < gaussian q n k) × (convert_of q n k from to i ≡ Done (index_in to j))
-  pub every : (j : ℕ) → j < gaussian q n k → (i : ℕ) × (i < gaussian q n k) × (convert_of q n k from to i ≡ Done (index_in to j))
+  pub below : (i : ℕ) → i < gaussian q n k → (j : ℕ) × (j < gaussian q n k) × (convert_of q n k from to i ≡ Ok (index_in to j))
+  pub every : (j : ℕ) → j < gaussian q n k → (i : ℕ) × (i < gaussian q n k) × (convert_of q n k from to i ≡ Ok (index_in to j))
   pub once : (i j : ℕ) → i < gaussian q n k → j < gaussian q n k → convert_of q n k from to i ≡ convert_of q n k from to j → i ≡ j

@@ -1,20 +1,13 @@
--- `numbering::counterpart` meets its contract: its indexes are those of the drawn matrix.
+-- `numbering::counterpart` meets its contract: the numberings that the numbers are read as give the index.
 use Rattle.std.proofs.Common.{ap, ◌∙◌}
-use Rattle.numbering.specs.Numbering.{code, drawn}
-use Rattle.numbering.specs.declared.Index.TheVariants.{Extended, Ferrers}
-use Rattle.numbering.specs.Laws.Either.{chose-extended, chose-ferrers}
+use Rattle.numbering.specs.Numbering.{code, numbering_of}
+use Rattle.numbering.specs.Laws.Either.{read-alike}
 use Rattle.numbering.proofs.counterpart.Goals as goal
 
-pub returns-in-Extended : goal.returns-in-Extended
-returns-in-Extended c =
+pub returns : goal.returns
+returns c =
     let a = c.args in
-    let m = drawn a.q a.n a.k (code a.from) a.index in
-    ap (λ i. Extended (record { 0 = i })) c.unrank_indexes-found.ensures.extended_value.0
-    ∙ ap (λ N. N.typed (N.index a.q a.n a.k m)) (chose-extended _ c.in-Extended.is)
-
-pub returns-in-Ferrers : goal.returns-in-Ferrers
-returns-in-Ferrers c =
-    let a = c.args in
-    let m = drawn a.q a.n a.k (code a.from) a.index in
-    ap (λ i. Ferrers (record { 0 = i })) c.unrank_indexes-found.ensures.extended_value.1
-    ∙ ap (λ N. N.typed (N.index a.q a.n a.k m)) (chose-ferrers _ c.in-Ferrers.is)
+    let T = numbering_of (code c.read_as-2.result) in
+    c.counterpart.ensures
+    ∙ ap (λ F. T.typed (T.index a.q a.n a.k (F.matrix a.q a.n a.k a.index))) (read-alike _ _ c.read_as.ensures)
+    ∙ ap (λ N. N.typed (N.index a.q a.n a.k ((numbering_of a.from).matrix a.q a.n a.k a.index))) (read-alike _ _ c.read_as-2.ensures)

@@ -1,27 +1,16 @@
--- `numbering::unrank` meets its contract: the numbering's own drawing.
+-- `numbering::unrank` meets its contract: the numbering that t is read as draws.
 use Rattle.std.proofs.Common.{ap, ◌∙◌}
 use Rattle.matrix.specs.Matrix.{identifying}
-use Rattle.numbering.specs.Laws.Either.{chose-extended, chose-ferrers}
+use Rattle.numbering.specs.Laws.Either.{read-alike}
 use Rattle.numbering.proofs.unrank.Goals as goal
 
-pub returns-in-Extended-clause-m_after : goal.returns-in-Extended-clause-m_after
-returns-in-Extended-clause-m_after c =
+pub returns-clause-m_after : goal.returns-clause-m_after
+returns-clause-m_after c =
     let a = c.args in
-    c.unrank.ensures.m_after ∙ ap (λ N. N.matrix a.q a.n a.k a.index) (chose-extended _ c.in-Extended.is)
+    c.unrank.ensures.m_after ∙ ap (λ N. N.matrix a.q a.n a.k a.index) (read-alike _ _ c.read_as.ensures)
 
-pub returns-in-Extended-clause-value : goal.returns-in-Extended-clause-value
-returns-in-Extended-clause-value c =
+pub returns-clause-value : goal.returns-clause-value
+returns-clause-value c =
     let a = c.args in
     c.unrank.ensures.value
-    ∙ ap (λ N. identifying a.n a.k (N.matrix a.q a.n a.k a.index)) (chose-extended _ c.in-Extended.is)
-
-pub returns-in-Ferrers-clause-m_after : goal.returns-in-Ferrers-clause-m_after
-returns-in-Ferrers-clause-m_after c =
-    let a = c.args in
-    c.unrank-in-Ferrers.ensures.m_after ∙ ap (λ N. N.matrix a.q a.n a.k a.index) (chose-ferrers _ c.in-Ferrers.is)
-
-pub returns-in-Ferrers-clause-value : goal.returns-in-Ferrers-clause-value
-returns-in-Ferrers-clause-value c =
-    let a = c.args in
-    c.unrank-in-Ferrers.ensures.value
-    ∙ ap (λ N. identifying a.n a.k (N.matrix a.q a.n a.k a.index)) (chose-ferrers _ c.in-Ferrers.is)
+    ∙ ap (λ N. identifying a.n a.k (N.matrix a.q a.n a.k a.index)) (read-alike _ _ c.read_as.ensures)

@@ -4,6 +4,7 @@
 --   is-extended, is-ferrers == which of the two it is
 --   chose-extended, chose-ferrers == the same, of a numbering's number
 --   code-known      == it is one of the two
+--   read-alike      == numbers that are both 1, or both not, are read as one numbering
 --   typed-value     == the number of an index is the one it was made of
 -- Assumes nothing.
 use Rattle.std.specs.Prelude.{◌≡◌, refl, Bool, true, false, List, ℕ, ◌<◌, eqb}
@@ -46,6 +47,10 @@ pub code-known : (c : Choice) → is_numbering (code c) ≡ true
 unfolding is_numbering
 code-known choices.Extended = refl
 code-known choices.Ferrers = refl
+
+pub read-alike : (a b : ℕ) → eqb a extended ≡ eqb b extended → numbering_of a ≡ numbering_of b
+unfolding numbering_of
+read-alike a b e = ap (λ x. pick x extended_numbering ferrers_numbering) e
 
 pub either : (q n k t : ℕ) → settings_refusal q n k ≡ 0 → Orderly (numbering_of t) q n k
 unfolding numbering_of

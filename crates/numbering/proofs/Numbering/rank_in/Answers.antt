@@ -1,8 +1,8 @@
--- `numbering::rank_in` meets its contract: the numbering's own index.
+-- `Numbering::rank_in` meets its contract: the numbering's own index.
 use Rattle.std.proofs.Common.{ap, ◌∙◌}
 use Rattle.numbering.specs.Laws.Either.{chose-extended, chose-ferrers}
 use Rattle.numbering.specs.declared.Index.TheVariants.{Extended, Ferrers}
-use Rattle.numbering.proofs.rank_in.Goals as goal
+use Rattle.numbering.proofs.Numbering.rank_in.Goals as goal
 
 pub returns-in-Extended : goal.returns-in-Extended
 returns-in-Extended c =
