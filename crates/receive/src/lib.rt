@@ -1,19 +1,19 @@
 // Receive: rows to index.
 #![tactic(auto)]
 
-ghost use Rattle.std.specs.Prelude.{◌≡◌, ◌*◌, ◌≤◌, T, length, IfOk};
+ghost use Rattle.std.specs.Prelude.{◌≡◌, ◌*◌, ◌≤◌, T, length};
 ghost use Rattle.refusal.specs.Refusal.{number_of};
 ghost use Rattle.settings.specs.Laws.Accepted.{Accepted};
 ghost use Rattle.matrix.specs.Matrix.{entries_below, Reduced};
 ghost use Rattle.linear.specs.Span.{rows_of};
 ghost use Rattle.linear.specs.Eliminate.{reduced_of, dimension as dimension_of};
-ghost use Rattle.numbering.specs.Numbering.{code};
+ghost use Rattle.numbering.specs.Laws.Chosen.{Chosen};
 ghost use Rattle.reduce.specs.Reduce.{most_rows, space_of};
 ghost use Rattle.receive.specs.Answer.{unreceived_number, space_answer, Told};
 ghost use Rattle.receive.specs.Receive.{rows_refusal, receive_refusal, reduced_answer, receive_of};
 ghost use Rattle.receive.specs.declared.Unreceived.TheVariants as unreceived;
 
-use numbering::{Index, Numbering};
+use numbering::Index;
 use reduce::Space;
 use refusal::Refusal;
 
@@ -52,12 +52,12 @@ pub fn space_answer(
     q: u64,
     n: u64,
     k: u64,
-    t: Numbering,
+    t: u64,
     space: Space,
     matrix: &[u8],
 ) -> Result<(Index, Space), Unreceived>
     requires { Accepted q n k × Reduced q n space.dimension matrix.now × (space ≡ space_of n space.dimension matrix.now) }
-    ensures { result ≡ space_answer q n k (code t) space.dimension matrix.now }
+    ensures { result ≡ space_answer q n k t space.dimension matrix.now }
 {
     if space.dimension < k {
         return Err(Unreceived::TooFew(space));
@@ -70,7 +70,6 @@ pub fn space_answer(
 }
 
 // Tests what is given but for the entries: the first of the refusals 1, 2, 3, 10, 13, 4 (the rows are not row_count×n bytes) that applies.
-// Answers the numbering.
 pub fn check_size(
     q: u64,
     n: u64,
@@ -78,25 +77,22 @@ pub fn check_size(
     t: u64,
     row_count: u64,
     size: usize,
-) -> Result<Numbering, Refusal>
-    ensures refusal { number_of result ≡ rows_refusal q n k t row_count size }
-    ensures chosen { IfOk result (λ c. code c ≡ t) }
+) -> Result<(), Refusal>
+    ensures { number_of result ≡ rows_refusal q n k t row_count size }
 {
-    let numbering = numbering::check(q, n, k, t)?;
-    reduce::check_rows_size(n, row_count, size)?;
-    Ok(numbering)
+    numbering::check(q, n, k, t)?;
+    reduce::check_rows_size(n, row_count, size)
 }
 
-// Tests what Receive is given, but for the span: the first of its refusals that applies. Answers the numbering.
-fn check(q: u64, n: u64, k: u64, t: u64, row_count: u64, rows: &[u8]) -> Result<Numbering, Refusal>
-    ensures refusal { number_of result ≡ receive_refusal q n k t row_count rows.now }
-    ensures chosen { IfOk result (λ c. code c ≡ t) }
+// Tests what Receive is given, but for the span: the first of its refusals that applies.
+fn check(q: u64, n: u64, k: u64, t: u64, row_count: u64, rows: &[u8]) -> Result<(), Refusal>
+    ensures { number_of result ≡ receive_refusal q n k t row_count rows.now }
 {
-    let numbering = check_size(q, n, k, t, row_count, rows.len())?;
+    check_size(q, n, k, t, row_count, rows.len())?;
     if !matrix::entries_below(rows, q) {
         return Err(Refusal::Entry);
     }
-    Ok(numbering)
+    Ok(())
 }
 
 // The answer for rows that are not refused: they are reduced, and the reduced matrix is numbered.
@@ -104,12 +100,12 @@ pub fn reduced_answer(
     q: u64,
     n: u64,
     k: u64,
-    t: Numbering,
+    t: u64,
     row_count: u64,
     rows: &[u8],
 ) -> Result<(Index, Space), Unreceived>
-    requires { Accepted q n k × (row_count ≤ most_rows) × (length rows.now ≡ row_count * n) × T (entries_below q rows.now) }
-    ensures { result ≡ reduced_answer q n k (code t) row_count rows.now }
+    requires { Chosen q n k t × (row_count ≤ most_rows) × (length rows.now ≡ row_count * n) × T (entries_below q rows.now) }
+    ensures { result ≡ reduced_answer q n k t row_count rows.now }
 {
     let mut matrix = [0u8; 256];
     let room = (n * n) as usize;
@@ -132,6 +128,6 @@ pub fn receive(
     ensures told { Told q n k t (dimension_of q n (rows_of n row_count rows.now))
         (reduced_of q n (rows_of n row_count rows.now)) (receive_refusal q n k t row_count rows.now) result }
 {
-    let numbering = check(q, n, k, t, row_count, rows)?;
-    reduced_answer(q, n, k, numbering, row_count, rows)
+    check(q, n, k, t, row_count, rows)?;
+    reduced_answer(q, n, k, t, row_count, rows)
 }
