@@ -5,27 +5,24 @@
 --   distance_of      == what the call answers
 --   distance_number, distance_value == the refusal number and the distance of each case of the answer
 -- Assumes nothing.
-use Rattle.std.specs.Prelude.{List, [], ◌∷◌, ℕ}
-use Rattle.refusal.specs.Refusal.{first, unless_refused}
+use Rattle.std.specs.Prelude.{List, [], ◌∷◌, ℕ, Result, Ok, Err}
+use Rattle.refusal.specs.Refusal.{first, number, answered}
 use Rattle.linear.specs.Span.{rows_of}
 use Rattle.spaces.specs.Distance.{distance}
 use Rattle.reduce.specs.Reduce.{row_settings_refusal, row_list_refusal}
-use Rattle.distance.specs.declared.Measured.{Measured}
-use Rattle.distance.specs.declared.Measured.TheVariants.{Distance, Refused}
+use Rattle.refusal.specs.declared.Refusal.{Refusal}
 
 unfoldable pub distance_refusal : ℕ → ℕ → ℕ → List ℕ → ℕ → List ℕ → ℕ
 distance_refusal q n r input s other =
     first (row_settings_refusal q n ∷ row_list_refusal q n r input ∷ row_list_refusal q n s other ∷ [])
 
-unfoldable pub distance_of : ℕ → ℕ → ℕ → List ℕ → ℕ → List ℕ → Measured
-distance_of q n r input s other =
-    unless_refused (distance_refusal q n r input s other) (Distance (distance q n (rows_of n r input) (rows_of n s other)))
-    (Refused (distance_refusal q n r input s other))
+unfoldable pub distance_of : ℕ → ℕ → ℕ → List ℕ → ℕ → List ℕ → Result ℕ Refusal
+distance_of q n r input s other = answered (distance_refusal q n r input s other) (distance q n (rows_of n r input) (rows_of n s other))
 
-abbrev pub distance_number : Measured → ℕ
-distance_number (Distance d) = 0
-distance_number (Refused r) = r
+abbrev pub distance_number : Result ℕ Refusal → ℕ
+distance_number (Ok d) = 0
+distance_number (Err r) = number r
 
-abbrev pub distance_value : Measured → ℕ
-distance_value (Distance d) = d
-distance_value (Refused r) = 0
+abbrev pub distance_value : Result ℕ Refusal → ℕ
+distance_value (Ok d) = d
+distance_value (Err r) = 0

@@ -1,40 +1,51 @@
 // The subspace distance of two lists of rows.
 #![tactic(auto)]
 
-ghost use Rattle.std.specs.Prelude.{◌≡◌, ◌*◌, replicate};
-ghost use Rattle.refusal.specs.Refusal.{unless_refused};
+ghost use Rattle.std.specs.Prelude.{◌≡◌, ◌*◌, ◌≤◌, T, replicate};
+ghost use Rattle.refusal.specs.Refusal.{number_of, unless_refused};
+ghost use Rattle.field.specs.Field.{is_field_size};
 ghost use Rattle.linear.specs.Span.{rows_of};
+ghost use Rattle.linear.specs.Eliminate.{reduced_rows};
+ghost use Rattle.reduction.specs.Laws.InsertRows.{Holds};
 ghost use Rattle.spaces.specs.Distance.{distance as distance_of_rows};
 ghost use Rattle.distance.specs.Distance.{distance_refusal, distance_of, distance_number, distance_value};
-ghost use Rattle.distance.specs.Laws.DistanceAccepted.{DistanceAccepted};
+ghost use Rattle.distance.specs.Laws.DistanceAccepted.{ListAccepted, DistanceAccepted};
 
-// What the call answers: the distance, or the refusal.
-#[derive(Drop)]
-pub enum Measured {
-    Distance(u64),
-    Refused(u32),
-}
+use refusal::Refusal;
 
-// The first refusal of the call that applies; 0 where none does.
-fn distance_refusal(
+// Tests what the call is given: the first of its refusals that applies.
+fn check(
     q: u64,
     n: u64,
     first_count: u64,
     first: &[u8],
     second_count: u64,
     second: &[u8],
-) -> u32
-    ensures { result ≡ distance_refusal q n first_count first.now second_count second.now }
+) -> Result<(), Refusal>
+    ensures { number_of result ≡ distance_refusal q n first_count first.now second_count second.now }
 {
-    let settings_refusal = reduce::row_settings_refusal(q, n);
-    if settings_refusal != 0 {
-        return settings_refusal;
-    }
-    let first_refusal = reduce::row_list_refusal(q, n, first_count, first);
-    if first_refusal != 0 {
-        return first_refusal;
-    }
-    reduce::row_list_refusal(q, n, second_count, second)
+    reduce::check_row_settings(q, n)?;
+    reduce::check_rows(q, n, first_count, first)?;
+    reduce::check_rows(q, n, second_count, second)
+}
+
+// Takes the rows of a list into n×n zeros: answers their dimension, and the columns of the pivots of their reduced matrix.
+fn reduced(q: u64, n: u64, row_count: u64, rows: &[u8], matrix: &mut [u8]) -> (usize, [u8; 16])
+    requires list { T (is_field_size q) × (n ≤ 16) × ListAccepted q n row_count rows.now }
+    requires zeros { matrix.old ≡ replicate (n * n) 0 }
+    ensures { Holds q n (reduced_rows q n (rows_of n row_count rows.now)) result.0 matrix.new result.1 }
+{
+    let mut pivots = [0u8; 16];
+    let dimension = reduction::insert_rows(
+        q,
+        n as usize,
+        0,
+        row_count as usize,
+        rows,
+        matrix,
+        &mut pivots,
+    );
+    (dimension, pivots)
 }
 
 // The distance, reduced in two buffers of n×n zeros. The second list's reduced rows are taken into the first's: there are at most n, and
@@ -55,26 +66,8 @@ fn reduced_distance(
         ≡ distance_of_rows q n (rows_of n first_count first.now) (rows_of n second_count second.now) }
 {
     let width = n as usize;
-    let mut pivots = [0u8; 16];
-    let mut other_pivots = [0u8; 16];
-    let first_dimension = reduction::insert_rows(
-        q,
-        width,
-        0,
-        first_count as usize,
-        first,
-        matrix,
-        &mut pivots,
-    );
-    let second_dimension = reduction::insert_rows(
-        q,
-        width,
-        0,
-        second_count as usize,
-        second,
-        other,
-        &mut other_pivots,
-    );
+    let (first_dimension, mut pivots) = reduced(q, n, first_count, first, matrix);
+    let (second_dimension, _) = reduced(q, n, second_count, second, other);
     let joint = reduction::insert_rows(
         q,
         width,
@@ -96,16 +89,13 @@ pub fn distance(
     first: &[u8],
     second_count: u64,
     second: &[u8],
-) -> Measured
+) -> Result<u64, Refusal>
     ensures value { result ≡ distance_of q n first_count first.now second_count second.now }
     ensures result_value { (distance_number result ≡ distance_refusal q n first_count first.now second_count second.now)
         × (distance_value result ≡ unless_refused (distance_refusal q n first_count first.now second_count second.now)
         (distance_of_rows q n (rows_of n first_count first.now) (rows_of n second_count second.now)) 0) }
 {
-    let refusal = distance_refusal(q, n, first_count, first, second_count, second);
-    if refusal != 0 {
-        return Measured::Refused(refusal);
-    }
+    check(q, n, first_count, first, second_count, second)?;
     let size = (n * n) as usize;
     let mut matrix = [0u8; 256];
     let mut other = [0u8; 256];
@@ -119,5 +109,5 @@ pub fn distance(
         &mut matrix[..size],
         &mut other[..size],
     );
-    Measured::Distance(distance)
+    Ok(distance)
 }

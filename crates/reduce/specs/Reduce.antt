@@ -12,9 +12,9 @@
 --   reduction_number, reduction_dimension, reduction_vector == document 01's refusal number and dimension, and order 2's vector, of each case
 --                    of the answer
 -- Assumes nothing.
-use Rattle.std.specs.Prelude.{List, [], ◌∷◌, ℕ, ◌*◌, eqb, leb, length}
+use Rattle.std.specs.Prelude.{List, [], ◌∷◌, ℕ, ◌*◌, eqb, leb, length, Result, Ok, Err}
 use Rattle.refusal.specs.Refusal.{field_size_refusal, range_refusal, length_refusal, entry_refusal, row_count_refusal}
-use Rattle.refusal.specs.Refusal.{refuse_unless, first, unless_refused}
+use Rattle.refusal.specs.Refusal.{refuse_unless, first, unless_refused, number, answered}
 use Rattle.field.specs.Field.{is_field_size}
 use Rattle.settings.specs.Settings.{row_length_ok}
 use Rattle.matrix.specs.Matrix.{entries_below, identifying}
@@ -22,8 +22,7 @@ use Rattle.linear.specs.Span.{rows_of}
 use Rattle.linear.specs.Eliminate.{reduced_of, dimension}
 use Rattle.reduction.specs.Padded.{padded}
 use Rattle.reduce.specs.declared.Space.{Space}
-use Rattle.reduce.specs.declared.Reduction.{Reduction}
-use Rattle.reduce.specs.declared.Reduction.TheVariants.{Done, Refused}
+use Rattle.refusal.specs.declared.Refusal.{Refusal}
 
 abbrev pub most_rows : ℕ
 most_rows = 64
@@ -52,23 +51,22 @@ reduce_refusal q n r input size =
     ∷ refuse_unless (entries_below q input) entry_refusal
     ∷ [])
 
-unfoldable pub reduce_of : ℕ → ℕ → ℕ → List ℕ → ℕ → Reduction
+unfoldable pub reduce_of : ℕ → ℕ → ℕ → List ℕ → ℕ → Result Space Refusal
 reduce_of q n r input size =
-    unless_refused (reduce_refusal q n r input size) (Done (space_of n (dimension q n (rows_of n r input)) (reduced_of q n (rows_of n r input))))
-    (Refused (reduce_refusal q n r input size))
+    answered (reduce_refusal q n r input size) (space_of n (dimension q n (rows_of n r input)) (reduced_of q n (rows_of n r input)))
 
 unfoldable pub reduce_buffer : ℕ → ℕ → ℕ → List ℕ → List ℕ → List ℕ
 reduce_buffer q n r input output =
     unless_refused (reduce_refusal q n r input (length output)) (padded (n * n) (reduced_of q n (rows_of n r input))) output
 
-abbrev pub reduction_number : Reduction → ℕ
-reduction_number (Done s) = 0
-reduction_number (Refused r) = r
+abbrev pub reduction_number : Result Space Refusal → ℕ
+reduction_number (Ok s) = 0
+reduction_number (Err r) = number r
 
-abbrev pub reduction_dimension : Reduction → ℕ
-reduction_dimension (Done s) = s.dimension
-reduction_dimension (Refused r) = 0
+abbrev pub reduction_dimension : Result Space Refusal → ℕ
+reduction_dimension (Ok s) = s.dimension
+reduction_dimension (Err r) = 0
 
-abbrev pub reduction_vector : Reduction → ℕ
-reduction_vector (Done s) = s.vector
-reduction_vector (Refused r) = 0
+abbrev pub reduction_vector : Result Space Refusal → ℕ
+reduction_vector (Ok s) = s.vector
+reduction_vector (Err r) = 0

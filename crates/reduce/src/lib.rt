@@ -2,7 +2,7 @@
 #![tactic(auto)]
 
 ghost use Rattle.std.specs.Prelude.{◌≡◌, ◌*◌, ◌≤◌, T, length, replicate};
-ghost use Rattle.refusal.specs.Refusal.{unless_refused};
+ghost use Rattle.refusal.specs.Refusal.{number_of, unless_refused};
 ghost use Rattle.field.specs.Field.{is_field_size};
 ghost use Rattle.matrix.specs.Matrix.{entries_below, identifying};
 ghost use Rattle.linear.specs.Span.{rows_of};
@@ -12,86 +12,70 @@ ghost use Rattle.reduce.specs.Reduce.{row_settings_refusal, rows_size_refusal, r
 ghost use Rattle.reduce.specs.Reduce.{space_of, reduce_refusal, reduce_of, reduce_buffer};
 ghost use Rattle.reduce.specs.Reduce.{reduction_number, reduction_dimension, reduction_vector};
 
+use refusal::Refusal;
+
 // The most rows that a call takes in.
 pub const MOST_ROWS: u64 = 64;
 
-// The first of the refusals 1, and 2 for n alone, that applies; 0 where neither does.
-pub fn row_settings_refusal(q: u64, n: u64) -> u32
-    ensures { result ≡ row_settings_refusal q n }
+// Tests q and n: the first of the refusals 1, and 2 for n alone, that applies.
+pub fn check_row_settings(q: u64, n: u64) -> Result<(), Refusal>
+    ensures { number_of result ≡ row_settings_refusal q n }
 {
     if !field::is_size(q) {
-        return refusal::FIELD_SIZE;
+        return Err(Refusal::FieldSize);
     }
     if !settings::row_length_ok(n) {
-        return refusal::RANGE;
+        return Err(Refusal::Range);
     }
-    0
+    Ok(())
 }
 
-// The first of the refusals 13 and 4 that applies to `row_count` rows of n entries in `size` bytes; 0 where neither does.
-pub fn rows_size_refusal(n: u64, row_count: u64, size: usize) -> u32
+// Tests `row_count` rows of n entries in `size` bytes: the first of the refusals 13 and 4 that applies.
+pub fn check_rows_size(n: u64, row_count: u64, size: usize) -> Result<(), Refusal>
     requires { n ≤ 16 }
-    ensures { result ≡ rows_size_refusal n row_count size }
+    ensures { number_of result ≡ rows_size_refusal n row_count size }
 {
     if MOST_ROWS < row_count {
-        return refusal::ROW_COUNT;
+        return Err(Refusal::RowCount);
     }
     if size as u64 != row_count * n {
-        return refusal::LENGTH;
+        return Err(Refusal::Length);
     }
-    0
+    Ok(())
 }
 
-// The first of the refusals 13, 4 and 6 that applies to a list of `row_count` rows of n entries; 0 where none does.
-pub fn row_list_refusal(q: u64, n: u64, row_count: u64, rows: &[u8]) -> u32
+// Tests a list of `row_count` rows of n entries: the first of the refusals 13, 4 and 6 that applies.
+pub fn check_rows(q: u64, n: u64, row_count: u64, rows: &[u8]) -> Result<(), Refusal>
     requires { n ≤ 16 }
-    ensures { result ≡ row_list_refusal q n row_count rows.now }
+    ensures { number_of result ≡ row_list_refusal q n row_count rows.now }
 {
-    let refusal = rows_size_refusal(n, row_count, rows.len());
-    if refusal != 0 {
-        return refusal;
-    }
+    check_rows_size(n, row_count, rows.len())?;
     if !matrix::entries_below(rows, q) {
-        return refusal::ENTRY;
+        return Err(Refusal::Entry);
     }
-    0
+    Ok(())
 }
 
 // What is told of the span of some rows: its dimension, and the identifying vector of its reduced matrix.
-#[derive(Drop)]
+#[derive(Clone, Copy)]
 pub struct Space {
     pub dimension: u64,
     pub vector: u16,
 }
 
-// What Reduce answers.
-#[derive(Drop)]
-pub enum Reduction {
-    Done(Space),
-    Refused(u32),
-}
-
-// The first refusal of Reduce that applies; 0 where none does.
-fn reduce_refusal(q: u64, n: u64, row_count: u64, rows: &[u8], size: usize) -> u32
-    ensures { result ≡ reduce_refusal q n row_count rows.now size }
+// Tests what Reduce is given: the first of its refusals that applies.
+fn check(q: u64, n: u64, row_count: u64, rows: &[u8], size: usize) -> Result<(), Refusal>
+    ensures { number_of result ≡ reduce_refusal q n row_count rows.now size }
 {
-    if !field::is_size(q) {
-        return refusal::FIELD_SIZE;
-    }
-    if !settings::row_length_ok(n) {
-        return refusal::RANGE;
-    }
-    let rows_refusal = rows_size_refusal(n, row_count, rows.len());
-    if rows_refusal != 0 {
-        return rows_refusal;
-    }
+    check_row_settings(q, n)?;
+    check_rows_size(n, row_count, rows.len())?;
     if size as u64 != n * n {
-        return refusal::LENGTH;
+        return Err(Refusal::Length);
     }
     if !matrix::entries_below(rows, q) {
-        return refusal::ENTRY;
+        return Err(Refusal::Entry);
     }
-    0
+    Ok(())
 }
 
 // Writes the reduced matrix of the rows' span to `output`, which holds n×n zeros, and tells of the span.
@@ -123,7 +107,13 @@ pub fn reduce_rows(q: u64, n: u64, row_count: u64, rows: &[u8], output: &mut [u8
 
 // Reduce: writes the reduced matrix of the rows' span to `output`, then zeros, and answers the dimension and the identifying vector.
 // Refuses 1, 2 (for n alone), 13, 4 (the rows are not row_count×n bytes, or the output not n×n), 6.
-pub fn reduce(q: u64, n: u64, row_count: u64, rows: &[u8], output: &mut [u8]) -> Reduction
+pub fn reduce(
+    q: u64,
+    n: u64,
+    row_count: u64,
+    rows: &[u8],
+    output: &mut [u8],
+) -> Result<Space, Refusal>
     ensures value { result ≡ reduce_of q n row_count rows.now (length output.old) }
     ensures output_after { output.new ≡ reduce_buffer q n row_count rows.now output.old }
     ensures result_value { (reduction_number result ≡ reduce_refusal q n row_count rows.now (length output.old))
@@ -133,10 +123,7 @@ pub fn reduce(q: u64, n: u64, row_count: u64, rows: &[u8], output: &mut [u8]) ->
         (identifying n (dimension_of q n (rows_of n row_count rows.now))
         (reduced_of q n (rows_of n row_count rows.now))) 0) }
 {
-    let refusal = reduce_refusal(q, n, row_count, rows, output.len());
-    if refusal != 0 {
-        return Reduction::Refused(refusal);
-    }
+    check(q, n, row_count, rows, output.len())?;
     matrix::clear(output);
-    Reduction::Done(reduce_rows(q, n, row_count, rows, output))
+    Ok(reduce_rows(q, n, row_count, rows, output))
 }

@@ -4,14 +4,15 @@
 --   DistanceAccepted  == what holds where none refuses
 --   distance-passed   == then none of the tests refuses
 --   distance-accepted == and what is not refused is DistanceAccepted
+--   distance-known    == the first refusal of the call is one, or none
 --   distance-told     == the number and the distance that an answer tells
 -- Assumes nothing.
-use Rattle.std.specs.Prelude.{◌≡◌, ℕ, ◌*◌, ◌≤◌, T, length}
+use Rattle.std.specs.Prelude.{◌≡◌, ℕ, ◌*◌, ◌≤◌, T, length, Result, Ok, Err}
 use Rattle.std.proofs.Math.Path.{refl, ap}
 use Rattle.std.proofs.Common.{◌∙◌}
 use mathlib.Core.List.{List, [], ◌∷◌}
-use Rattle.refusal.specs.Refusal.{unless_refused}
-use Rattle.refusal.specs.Laws.First.{first-zero, told-number, told-value}
+use Rattle.refusal.specs.Refusal.{unless_refused, named}
+use Rattle.refusal.specs.Laws.First.{first-zero, told-number, told-value, Known, known-none, known-first}
 use Rattle.field.specs.Field.{is_field_size}
 use Rattle.matrix.specs.Matrix.{entries_below}
 use Rattle.linear.specs.Span.{All, Row, rows_of}
@@ -19,9 +20,9 @@ use Rattle.spaces.specs.Distance.{distance}
 use Rattle.reduce.specs.Reduce.{most_rows, row_settings_refusal, row_list_refusal}
 use Rattle.reduce.specs.Laws.ReduceRows.{input-rows}
 use Rattle.reduce.specs.Laws.RowList.{row-settings-accepted, rows-size-accepted, row-list-accepted}
+use Rattle.reduce.specs.Laws.RowList.{row-settings-known, row-list-known}
 use Rattle.distance.specs.Distance.{distance_refusal, distance_of, distance_number, distance_value}
-use Rattle.distance.specs.declared.Measured.{Measured}
-use Rattle.distance.specs.declared.Measured.TheVariants.{Distance, Refused}
+use Rattle.refusal.specs.declared.Refusal.{Refusal}
 
 pub record ListAccepted (q n r : ℕ) (input : List ℕ) : Type 0 where
   pub few : r ≤ most_rows
@@ -64,13 +65,21 @@ module _ (q n r : ℕ) (input : List ℕ) (s : ℕ) (other : List ℕ) where
         second = list-accepted q n s other passed.2;
       }
 
-  pub distance-told : (a : Measured) → a ≡ distance_of q n r input s other
+  pub distance-known : Known (distance_refusal q n r input s other)
+  unfolding distance_refusal
+  distance-known =
+      known-first _ _ (row-settings-known q n)
+      (known-first _ _ (row-list-known n r q input) (known-first _ _ (row-list-known n s q other) known-none))
+
+  pub distance-told : (a : Result ℕ Refusal) → a ≡ distance_of q n r input s other
       → (distance_number a ≡ distance_refusal q n r input s other)
       × (distance_value a ≡ unless_refused (distance_refusal q n r input s other) (distance q n (rows_of n r input) (rows_of n s other)) 0)
   unfolding distance_of
   distance-told a e =
       let refusal = distance_refusal q n r input s other in
-      let d = distance q n (rows_of n r input) (rows_of n s other) in (
-        ap distance_number e ∙ told-number refusal (Distance d) (Refused refusal) distance_number refl refl,
-        ap distance_value e ∙ told-value refusal (Distance d) (Refused refusal) distance_value d refl refl,
+      let d = distance q n (rows_of n r input) (rows_of n s other) in
+      let answer = Ok d in
+      let other = Err (named refusal) in (
+        ap distance_number e ∙ told-number refusal answer other distance_number refl distance-known,
+        ap distance_value e ∙ told-value refusal answer other distance_value d refl refl,
       )
