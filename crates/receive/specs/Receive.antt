@@ -6,14 +6,12 @@
 --   receive_of      == what Receive answers
 -- Assumes nothing.
 use Rattle.std.specs.Prelude.{List, [], ◌∷◌, ℕ}
-use Rattle.refusal.specs.Refusal.{first, unless_refused}
+use Rattle.refusal.specs.Refusal.{first}
 use Rattle.linear.specs.Span.{rows_of}
 use Rattle.linear.specs.Eliminate.{reduced_of, dimension}
 use Rattle.numbering.specs.Numbering.{choice_refusal}
 use Rattle.reduce.specs.Reduce.{rows_size_refusal, row_list_refusal}
-use Rattle.receive.specs.Answer.{space_answer}
-use Rattle.receive.specs.declared.Received.{Received}
-use Rattle.receive.specs.declared.Received.TheVariants.{Refused}
+use Rattle.receive.specs.Answer.{Received, space_answer, received}
 
 unfoldable pub rows_refusal : ℕ → ℕ → ℕ → ℕ → ℕ → ℕ → ℕ
 rows_refusal q n k t r size = first (choice_refusal q n k t ∷ rows_size_refusal n r size ∷ [])
@@ -25,5 +23,4 @@ abbrev pub reduced_answer : ℕ → ℕ → ℕ → ℕ → ℕ → List ℕ →
 reduced_answer q n k t r input = space_answer q n k t (dimension q n (rows_of n r input)) (reduced_of q n (rows_of n r input))
 
 unfoldable pub receive_of : ℕ → ℕ → ℕ → ℕ → ℕ → List ℕ → Received
-receive_of q n k t r input =
-    unless_refused (receive_refusal q n k t r input) (reduced_answer q n k t r input) (Refused (receive_refusal q n k t r input))
+receive_of q n k t r input = received (receive_refusal q n k t r input) (reduced_answer q n k t r input)

@@ -1,70 +1,115 @@
 // Receive: rows to index.
 #![tactic(auto)]
 
-ghost use Rattle.std.specs.Prelude.{◌≡◌, ◌*◌, ◌≤◌, T, length};
+ghost use Rattle.std.specs.Prelude.{◌≡◌, ◌*◌, ◌≤◌, T, length, IfOk};
+ghost use Rattle.refusal.specs.Refusal.{number_of};
 ghost use Rattle.settings.specs.Laws.Accepted.{Accepted};
 ghost use Rattle.matrix.specs.Matrix.{entries_below, Reduced};
 ghost use Rattle.linear.specs.Span.{rows_of};
 ghost use Rattle.linear.specs.Eliminate.{reduced_of, dimension as dimension_of};
-ghost use Rattle.numbering.specs.Laws.Chosen.{Chosen};
+ghost use Rattle.numbering.specs.Numbering.{code};
 ghost use Rattle.reduce.specs.Reduce.{most_rows, space_of};
-ghost use Rattle.receive.specs.Answer.{space_answer, Told};
+ghost use Rattle.receive.specs.Answer.{unreceived_number, space_answer, Told};
 ghost use Rattle.receive.specs.Receive.{rows_refusal, receive_refusal, reduced_answer, receive_of};
+ghost use Rattle.receive.specs.declared.Unreceived.TheVariants as unreceived;
 
-use numbering::Index;
+use numbering::{Index, Numbering};
 use reduce::Space;
+use refusal::Refusal;
 
-// What Receive and Close answer: the index, or that the rows span fewer or more than k dimensions, each with what is told of their span;
-// or another refusal.
-#[derive(Drop)]
-pub enum Received {
-    Done(Index, Space),
+// Why Receive and Close answer no index: the rows span fewer or more than k dimensions, with what is told of their span; or another
+// refusal.
+#[derive(Clone, Copy)]
+pub enum Unreceived {
     TooFew(Space),
     TooMany(Space),
-    Refused(u32),
+    Refused(Refusal),
+}
+
+impl From<Refusal> for Unreceived {
+    ghost from_gives = { λ r u. u ≡ unreceived.Refused r };
+
+    fn from(refusal: Refusal) -> Unreceived {
+        Unreceived::Refused(refusal)
+    }
+}
+
+// The number of the refusal.
+impl From<Unreceived> for u32 {
+    ghost from_gives = { λ u n. n ≡ unreceived_number u };
+
+    fn from(unreceived: Unreceived) -> u32 {
+        match unreceived {
+            Unreceived::TooFew(_) => Refusal::TooFew.into(),
+            Unreceived::TooMany(_) => Refusal::TooMany.into(),
+            Unreceived::Refused(refusal) => refusal.into(),
+        }
+    }
 }
 
 // The answer for a span, whose reduced matrix is given: its index where it has k dimensions, else too few or too many.
-pub fn space_answer(q: u64, n: u64, k: u64, t: u64, space: Space, matrix: &[u8]) -> Received
+pub fn space_answer(
+    q: u64,
+    n: u64,
+    k: u64,
+    t: Numbering,
+    space: Space,
+    matrix: &[u8],
+) -> Result<(Index, Space), Unreceived>
     requires { Accepted q n k × Reduced q n space.dimension matrix.now × (space ≡ space_of n space.dimension matrix.now) }
-    ensures { result ≡ space_answer q n k t space.dimension matrix.now }
+    ensures { result ≡ space_answer q n k (code t) space.dimension matrix.now }
 {
     if space.dimension < k {
-        return Received::TooFew(space);
+        return Err(Unreceived::TooFew(space));
     }
     if k < space.dimension {
-        return Received::TooMany(space);
+        return Err(Unreceived::TooMany(space));
     }
     let index = numbering::rank(matrix, q, n as usize, k as usize, t, space.vector);
-    Received::Done(index, space)
+    Ok((index, space))
 }
 
-// The first of the refusals 1, 2, 3, 10, 13, 4 (the rows are not row_count×n bytes) that applies; 0 where none does.
-pub fn rows_refusal(q: u64, n: u64, k: u64, t: u64, row_count: u64, size: usize) -> u32
-    ensures { result ≡ rows_refusal q n k t row_count size }
+// Tests what is given but for the entries: the first of the refusals 1, 2, 3, 10, 13, 4 (the rows are not row_count×n bytes) that applies.
+// Answers the numbering.
+pub fn check_size(
+    q: u64,
+    n: u64,
+    k: u64,
+    t: u64,
+    row_count: u64,
+    size: usize,
+) -> Result<Numbering, Refusal>
+    ensures refusal { number_of result ≡ rows_refusal q n k t row_count size }
+    ensures chosen { IfOk result (λ c. code c ≡ t) }
 {
-    let choice = numbering::choice_refusal(q, n, k, t);
-    if choice != 0 {
-        return choice;
-    }
-    reduce::rows_size_refusal(n, row_count, size)
+    let numbering = numbering::check(q, n, k, t)?;
+    reduce::check_rows_size(n, row_count, size)?;
+    Ok(numbering)
 }
 
-// The first refusal of Receive that applies, but for 8 and 9; 0 where none does.
-fn receive_refusal(q: u64, n: u64, k: u64, t: u64, row_count: u64, rows: &[u8]) -> u32
-    ensures { result ≡ receive_refusal q n k t row_count rows.now }
+// Tests what Receive is given, but for the span: the first of its refusals that applies. Answers the numbering.
+fn check(q: u64, n: u64, k: u64, t: u64, row_count: u64, rows: &[u8]) -> Result<Numbering, Refusal>
+    ensures refusal { number_of result ≡ receive_refusal q n k t row_count rows.now }
+    ensures chosen { IfOk result (λ c. code c ≡ t) }
 {
-    let choice = numbering::choice_refusal(q, n, k, t);
-    if choice != 0 {
-        return choice;
+    let numbering = check_size(q, n, k, t, row_count, rows.len())?;
+    if !matrix::entries_below(rows, q) {
+        return Err(Refusal::Entry);
     }
-    reduce::row_list_refusal(q, n, row_count, rows)
+    Ok(numbering)
 }
 
 // The answer for rows that are not refused: they are reduced, and the reduced matrix is numbered.
-pub fn reduced_answer(q: u64, n: u64, k: u64, t: u64, row_count: u64, rows: &[u8]) -> Received
-    requires { Chosen q n k t × (row_count ≤ most_rows) × (length rows.now ≡ row_count * n) × T (entries_below q rows.now) }
-    ensures { result ≡ reduced_answer q n k t row_count rows.now }
+pub fn reduced_answer(
+    q: u64,
+    n: u64,
+    k: u64,
+    t: Numbering,
+    row_count: u64,
+    rows: &[u8],
+) -> Result<(Index, Space), Unreceived>
+    requires { Accepted q n k × (row_count ≤ most_rows) × (length rows.now ≡ row_count * n) × T (entries_below q rows.now) }
+    ensures { result ≡ reduced_answer q n k (code t) row_count rows.now }
 {
     let mut matrix = [0u8; 256];
     let room = (n * n) as usize;
@@ -75,14 +120,18 @@ pub fn reduced_answer(q: u64, n: u64, k: u64, t: u64, row_count: u64, rows: &[u8
 
 // Receive: the index of the space that the rows span, in the numbering t, with its dimension and identifying vector. Refuses 1, 2, 3, 10,
 // 13, 4 (not exactly row_count×n bytes), 6; 8 and 9, with the dimension and the vector, if the span has fewer or more than k dimensions.
-pub fn receive(q: u64, n: u64, k: u64, t: u64, row_count: u64, rows: &[u8]) -> Received
+pub fn receive(
+    q: u64,
+    n: u64,
+    k: u64,
+    t: u64,
+    row_count: u64,
+    rows: &[u8],
+) -> Result<(Index, Space), Unreceived>
     ensures value { result ≡ receive_of q n k t row_count rows.now }
     ensures told { Told q n k t (dimension_of q n (rows_of n row_count rows.now))
         (reduced_of q n (rows_of n row_count rows.now)) (receive_refusal q n k t row_count rows.now) result }
 {
-    let refusal = receive_refusal(q, n, k, t, row_count, rows);
-    if refusal != 0 {
-        return Received::Refused(refusal);
-    }
-    reduced_answer(q, n, k, t, row_count, rows)
+    let numbering = check(q, n, k, t, row_count, rows)?;
+    reduced_answer(q, n, k, numbering, row_count, rows)
 }

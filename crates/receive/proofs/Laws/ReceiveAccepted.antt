@@ -3,33 +3,39 @@
 --   rows-accepted, rows-unrefused == it is so exactly there
 --   receive-split    == 6 is the last of the refusals before 8
 --   receive-unrefused, receive-accepted == nor does 6
+--   choice-known, receive-known == what these tests come to is a refusal, or none
 --   receive-told     == what an answer of Receive tells
 -- Assumes nothing.
 use Rattle.std.specs.Prelude.{◌≡◌, true, T, length}
-use Rattle.std.proofs.Common.{◌∙◌, subst}
+use Rattle.std.proofs.Common.{◌∙◌}
 use Rattle.std.proofs.Math.Path.{sym}
 use mathlib.Core.List.{List, [], ◌∷◌}
 use Prim.Native.Nat.{ℕ, ◌*◌, ◌≤◌}
-use Rattle.std.proofs.Math.Decide.{ℕ_discrete}
 use Rattle.basics.specs.Laws.Choice.{holds}
 use Rattle.refusal.specs.Refusal.{entry_refusal, refuse_unless, first}
-use Rattle.refusal.specs.Laws.First.{first-zero, first-passed, test_zero, test-passed, first-none, first_head, first_tail, kept, done}
+use Rattle.refusal.specs.Laws.First.{first-zero, first-passed, test_zero, test-passed, first-none, first_head, first_tail}
+use Rattle.refusal.specs.Laws.First.{Known, known-none, known-test, known-first}
+use Rattle.refusal.specs.declared.Refusal.TheVariants.{Numbering}
 use Rattle.matrix.specs.Matrix.{entries_below}
+use Rattle.settings.specs.Laws.Accepted.{settings-known}
 use Rattle.linear.specs.Span.{rows_of}
 use Rattle.linear.specs.Eliminate.{reduced_of, dimension}
 use Rattle.numbering.specs.Numbering.{choice_refusal}
 use Rattle.numbering.specs.Laws.Chosen.{Chosen, chosen}
 use Rattle.reduce.specs.Reduce.{most_rows, rows_size_refusal, row_list_refusal}
-use Rattle.reduce.specs.Laws.RowList.{rows-size-accepted, rows-size-unrefused}
-use Rattle.receive.specs.Answer.{Told}
+use Rattle.reduce.specs.Laws.RowList.{rows-size-accepted, rows-size-unrefused, row-list-known}
+use Rattle.receive.specs.Answer.{Received, Told}
 use Rattle.receive.specs.Receive.{rows_refusal, receive_refusal, receive_of}
-use Rattle.receive.proofs.Laws.Space.{space-told, refused-told}
-use Rattle.receive.specs.declared.Received.{Received}
+use Rattle.receive.proofs.Laws.Space.{received-told}
 
 pub record RowsAccepted (q n k t r size : ℕ) : Type 0 where
   pub choice : Chosen q n k t
   pub few : r ≤ most_rows
   pub sized : size ≡ r * n
+
+pub choice-known : (q n k t : ℕ) → Known (choice_refusal q n k t)
+unfolding choice_refusal
+choice-known q n k t = known-first _ _ (settings-known q n k) (known-first _ _ (known-test _ Numbering) known-none)
 
 module _ (q n k t r : ℕ) where
   pub rows-accepted : (size : ℕ) → rows_refusal q n k t r size ≡ 0 → RowsAccepted q n k t r size
@@ -67,18 +73,11 @@ module _ (q n k t r : ℕ) where
         holds (entries_below q input) (test_zero (entries_below q input) entry_refusal [] tt s.1).0,
       )
 
+  pub receive-known : (input : List ℕ) → Known (receive_refusal q n k t r input)
+  unfolding receive_refusal
+  receive-known input = known-first _ _ (choice-known q n k t) (known-first _ _ (row-list-known n r q input) known-none)
+
   pub receive-told : (input : List ℕ) (a : Received) → a ≡ receive_of q n k t r input
       → Told q n k t (dimension q n (rows_of n r input)) (reduced_of q n (rows_of n r input)) (receive_refusal q n k t r input) a
   unfolding receive_of
-  receive-told input a e = cases (ℕ_discrete (receive_refusal q n k t r input) 0)
-    where
-      d : ℕ
-      d = dimension q n (rows_of n r input)
-
-      m : List ℕ
-      m = reduced_of q n (rows_of n r input)
-
-      cases : Dec (receive_refusal q n k t r input ≡ 0)
-          → Told q n k t (dimension q n (rows_of n r input)) (reduced_of q n (rows_of n r input)) (receive_refusal q n k t r input) a
-      cases (yes z) = subst (Told q n k t d m (receive_refusal q n k t r input)) (done _ _ _ z ∙ sym e) (space-told q n k t d m _ z)
-      cases (no z) = subst (Told q n k t d m (receive_refusal q n k t r input)) (kept _ _ _ z ∙ sym e) (refused-told q n k t d m _ z)
+  receive-told input a e = rw e (received-told q n k t _ _ _ (receive-known input))

@@ -11,7 +11,7 @@ use Rattle.linear.specs.Eliminate.{insert_rows, join, reduced_rows, reduced_of, 
 use Rattle.reduction.specs.Padded.{padded}
 use Rattle.reduction.specs.Laws.InsertRows.{holds-nothing}
 use Rattle.reduction.specs.Laws.Steps.{leads}
-use Rattle.reduce.specs.Laws.ReduceRows.{input-reduced, input-most, input-fits, input-front, input-pivots}
+use Rattle.reduce.specs.Laws.ReduceRows.{input-most, input-fits, input-front, input-held, input-pivots}
 use Rattle.reduce.proofs.reduce_rows.Goals as goal
 
 pub insert_rows-dimension-requires-clause-t : goal.insert_rows-dimension-requires-clause-t
@@ -49,7 +49,7 @@ module _ (q n r d : ℕ) (rows output : List ℕ)
     front = ap (take (d * n)) (sym (append-nil filled)) ∙ input-front q n r rows p.0 p.2 p.3 d filled [] counted padding
 
     front-reduced : Reduced q n d (take (d * n) filled)
-    front-reduced = rw (front, counted) (input-reduced q n r rows p.0 p.2 p.3)
+    front-reduced = rw (sym (append-nil filled)) (input-held q n r rows p.0 p.2 p.3 d filled [] counted padding)
 
   module _ (pivots : List ℕ) (told : take d pivots ≡ leads n (insert_rows q n (rows_of n 0 output) (rows_of n r rows))) where
     led : take d pivots ≡ leads n (reduced_rows q n (rows_of n r rows))

@@ -3,12 +3,13 @@
 --   input-reduced == their reduced matrix is Reduced, with as many rows as their dimension
 --   input-most, input-fits == it has at most n rows, and its bytes are at most 256
 --   input-front   == they stand first where they are followed by zeros and whatever else
+--   input-held, input-within == so what stands first is Reduced, and ends within the bytes
 --   input-pivots  == the columns of its pivots, as the reduction leaves them
 -- Assumes nothing.
 use Rattle.std.specs.Prelude.{◌≡◌, List, ◌++◌, ℕ, ◌*◌, ◌≤◌, ◌<◌, ◌-◌, T, replicate}
 use Rattle.std.proofs.Math.Path.{ap, sym}
 use Rattle.std.proofs.Common.{◌∙◌, append_assoc, mul-le-mul, arith, get_or-take}
-use Rattle.std.proofs.Math.ListN.{length, get_or, take}
+use Rattle.std.proofs.Math.ListN.{length, get_or, take, length-take}
 use Rattle.std.proofs.Math.Seq.{take_at}
 use Rattle.field.specs.Laws.Decide.{laws}
 use Rattle.field.specs.Field.{is_field_size}
@@ -47,6 +48,14 @@ module _ (q n r : ℕ) (input : List ℕ) (field : T (is_field_size q)) (sized :
       ap (λ x. take (d * n) (x ++ rest)) f
       ∙ ap (take (d * n)) (append_assoc m (replicate (n * n - length m) 0) rest)
       ∙ take_at m (replicate (n * n - length m) 0 ++ rest) (d * n) (input-reduced.size ∙ ap (λ x. x * n) (sym e))
+
+  pub input-held : (d : ℕ) (filled rest : List ℕ) → d ≡ dimension q n (rows_of n r input)
+      → filled ≡ padded (n * n) (reduced_of q n (rows_of n r input)) → Reduced q n d (take (d * n) (filled ++ rest))
+  input-held d filled rest e f = rw (input-front d filled rest e f, e) input-reduced
+
+  pub input-within : (d : ℕ) (filled rest : List ℕ) → d ≡ dimension q n (rows_of n r input)
+      → filled ≡ padded (n * n) (reduced_of q n (rows_of n r input)) → d * n ≤ length (filled ++ rest)
+  input-within d filled rest e f = omega (arith, simp length-take at (input-held d filled rest e f).size)
 
   pub input-pivots : (d : ℕ) (pivots : List ℕ) → d ≡ dimension q n (rows_of n r input)
       → take d pivots ≡ leads n (reduced_rows q n (rows_of n r input))
