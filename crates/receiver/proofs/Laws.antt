@@ -1,3 +1,4 @@
 -- Lemmas; no part of the meaning.
-pub mod TakenIn
+pub mod Formed
 pub mod TakeTold
+pub mod TakenIn

@@ -32,24 +32,23 @@
 --                       accepted row is zero; and, order 5: "The receiver's content is untouched" wherever the answer isn't "raised": whole
 --                       receivers are equal
 -- Assumes nothing.
-use Rattle.std.specs.Prelude.{◌≡◌, Bool, true, false, ◌&&◌, List, [], ◌∷◌, ◌++◌, ℕ, ◌*◌, eqb, ltb, leb, length, take, drop, replicate}
+use Rattle.std.specs.Prelude.{◌≡◌, Bool, true, false, ◌&&◌, List, [], ◌∷◌, ◌++◌, ℕ, ◌*◌, eqb, ltb, leb, length, take, drop, replicate, Result, Ok, Err}
 use Rattle.basics.specs.Choice.{pick}
 use Rattle.refusal.specs.Refusal.{receiver_refusal, pack_refusal, length_refusal, entry_refusal, numbering_refusal}
-use Rattle.refusal.specs.Refusal.{refuse_unless, first, unless_refused}
+use Rattle.refusal.specs.Refusal.{refuse_unless, first, unless_refused, number, named, answered, number_of}
+use Rattle.refusal.specs.declared.Refusal.{Refusal}
 use Rattle.settings.specs.Settings.{settings_refusal}
 use Rattle.matrix.specs.Matrix.{entries_below, is_reduced}
 use Rattle.linear.specs.Span.{rows_of}
 use Rattle.linear.specs.Eliminate.{reduced_of, dimension}
 use Rattle.reduction.specs.Padded.{padded}
 use Rattle.numbering.specs.Numbering.{is_numbering}
-use Rattle.receive.specs.Answer.{space_answer}
-use Rattle.receive.specs.declared.Received.{Received}
-use Rattle.receive.specs.declared.Received.TheVariants as received
+use Rattle.receive.specs.Answer.{Received, space_answer, received}
 use Rattle.receiver.specs.declared.Receiver.{Receiver}
 use Rattle.receiver.specs.declared.Started.{Started}
 use Rattle.receiver.specs.declared.Taken.{Taken}
-use Rattle.receiver.specs.declared.TakeAnswer.{TakeAnswer}
-use Rattle.receiver.specs.declared.TakeAnswer.TheVariants.{Raised, Held, Idle, Refused}
+use Rattle.receiver.specs.declared.Effect.{Effect}
+use Rattle.receiver.specs.declared.Effect.TheVariants.{Raised, Held, Idle}
 
 pub record Setup : Type 0 where
   pub q : ℕ
@@ -83,10 +82,10 @@ abbrev pub empty : Setup → Receiver
 empty s = made s 0 (replicate 256 0)
 
 unfoldable pub start_of : Setup → Started
-start_of s = record { receiver = unless_refused (setup_refusal s) (empty s) (empty no_setup); refusal = setup_refusal s }
+start_of s = record { receiver = unless_refused (setup_refusal s) (empty s) (empty no_setup); answer = answered (setup_refusal s) tt }
 
 abbrev pub start_number : Started → ℕ
-start_number s = s.refusal
+start_number s = number_of s.answer
 
 -- the entries that the receiver uses
 abbrev pub used : Receiver → List ℕ
@@ -128,47 +127,47 @@ taken_in r o =
     record {
       receiver = holding (setup_of r) (held_rows r ++ (o.row ∷ []));
       answer =
-          pick (is_zero o.row) Idle
-          (pick (ltb r.dimension (dimension r.q r.n (held_rows r ++ (o.row ∷ [])))) Raised Held);
+          Ok
+          (pick (is_zero o.row) Idle
+          (pick (ltb r.dimension (dimension r.q r.n (held_rows r ++ (o.row ∷ [])))) Raised Held));
     }
 
 unfoldable pub take_of : Receiver → Offer → Taken
-take_of r o = unless_refused (take_refusal r o) (taken_in r o) (record { receiver = r; answer = Refused (take_refusal r o) })
+take_of r o = unless_refused (take_refusal r o) (taken_in r o) (record { receiver = r; answer = Err (named (take_refusal r o)) })
 
 -- a receiver and an answer
-abbrev pub taken_as : Receiver → TakeAnswer → Taken
+abbrev pub taken_as : Receiver → Result Effect Refusal → Taken
 taken_as r answer = record { receiver = r; answer = answer }
 
 abbrev pub lent_receiver : Receiver → Offer → Receiver
 lent_receiver r o = (take_of r o).receiver
 
-abbrev pub lent_answer : Receiver → Offer → TakeAnswer
+abbrev pub lent_answer : Receiver → Offer → Result Effect Refusal
 lent_answer r o = (take_of r o).answer
 
 unfoldable pub close_refusal : Receiver → ℕ → ℕ
 close_refusal r t = first (refuse_unless (well_formed r) receiver_refusal ∷ refuse_unless (is_numbering t) numbering_refusal ∷ [])
 
 unfoldable pub close_of : Receiver → ℕ → Received
-close_of r t =
-    unless_refused (close_refusal r t) (space_answer r.q r.n r.k t r.dimension (used r)) (received.Refused (close_refusal r t))
+close_of r t = received (close_refusal r t) (space_answer r.q r.n r.k t r.dimension (used r))
 
-abbrev pub take_number : TakeAnswer → ℕ
-take_number Raised = 0
-take_number Held = 0
-take_number Idle = 0
-take_number (Refused r) = r
+abbrev pub take_number : Result Effect Refusal → ℕ
+take_number (Ok Raised) = 0
+take_number (Ok Held) = 0
+take_number (Ok Idle) = 0
+take_number (Err r) = number r
 
-abbrev pub take_raised : TakeAnswer → Bool
-take_raised Raised = true
-take_raised Held = false
-take_raised Idle = false
-take_raised (Refused r) = false
+abbrev pub take_raised : Result Effect Refusal → Bool
+take_raised (Ok Raised) = true
+take_raised (Ok Held) = false
+take_raised (Ok Idle) = false
+take_raised (Err r) = false
 
-abbrev pub take_idle : TakeAnswer → Bool
-take_idle Raised = false
-take_idle Held = false
-take_idle Idle = true
-take_idle (Refused r) = false
+abbrev pub take_idle : Result Effect Refusal → Bool
+take_idle (Ok Raised) = false
+take_idle (Ok Held) = false
+take_idle (Ok Idle) = true
+take_idle (Err r) = false
 
 pub record TakeTells (r : Receiver) (o : Offer) (t : Taken) : Type 0 where
   pub number : take_number t.answer ≡ take_refusal r o

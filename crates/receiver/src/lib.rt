@@ -1,17 +1,20 @@
 // The receiver: the reduced rows of all rows taken so far, the settings, and the pack that it belongs to.
 #![tactic(auto)]
 
-ghost use Rattle.std.specs.Prelude.{◌≡◌, false, ℕ, length};
-ghost use Rattle.basics.specs.Choice.{pick};
+ghost use Rattle.std.specs.Prelude.{◌≡◌, false, IfOk};
+ghost use Rattle.std.specs.Bool.{then_some};
 ghost use Rattle.matrix.specs.Matrix.{identifying};
+ghost use Rattle.refusal.specs.Refusal.{number_of};
 ghost use Rattle.receive.specs.Answer.{Told};
-ghost use Rattle.receiver.specs.Receiver.{setup, setup_refusal, offer, made, empty, start_of, start_number, used, well_formed, is_zero};
+ghost use Rattle.receiver.specs.Receiver.{setup, setup_refusal, offer, empty, start_of, start_number, used, well_formed, is_zero};
 ghost use Rattle.receiver.specs.Receiver.{take_refusal, taken_in, take_of, TakeTells};
 ghost use Rattle.receiver.specs.Receiver.{lent_receiver, lent_answer, taken_as, close_refusal, close_of};
 ghost use Rattle.receiver.specs.Laws.TakeAccepted.{TakeAccepted};
 
-use receive::Received;
+use numbering::{Index, Numbering};
+use receive::Unreceived;
 use reduce::Space;
+use refusal::Refusal;
 
 // The first n×n entries hold the reduced rows, then zeros; so are all others. The pack is the one whose rows are taken.
 #[derive(Clone, Copy)]
@@ -24,41 +27,26 @@ pub struct Receiver {
     pub pack: u16,
 }
 
-// What Start answers: a receiver, and the refusal or 0.
+// What Start answers. The receiver stands beside the answer, and not in it, because a refused start hands back one too.
 #[derive(Drop)]
 pub struct Started {
     pub receiver: Receiver,
-    pub refusal: u32,
+    pub answer: Result<(), Refusal>,
 }
 
-// What Take answers of a row.
-#[derive(Drop)]
-pub enum TakeAnswer {
+// What a row that Take does not refuse does to the receiver.
+#[derive(Clone, Copy, Debug, PartialEq, Eq)]
+pub enum Effect {
     Raised,
     Held,
     Idle,
-    Refused(u32),
 }
 
 // The receiver handed back by Take, and the answer.
 #[derive(Drop)]
 pub struct Taken {
     pub receiver: Receiver,
-    pub answer: TakeAnswer,
-}
-
-// A receiver with this setup that holds no rows.
-pub fn empty_receiver(q: u64, n: u64, k: u64, pack: u16) -> Receiver
-    ensures { result ≡ empty (setup q n k pack) }
-{
-    Receiver {
-        entries: [0u8; 256],
-        q,
-        n,
-        k,
-        dimension: 0,
-        pack,
-    }
+    pub answer: Result<Effect, Refusal>,
 }
 
 // Start: a receiver that belongs to the pack and holds no rows. Refuses 1, 2, 3, with a receiver of all zeros.
@@ -66,157 +54,91 @@ pub fn start(q: u64, n: u64, k: u64, pack: u16) -> Started
     ensures value { result ≡ start_of (setup q n k pack) }
     ensures result_value { start_number result ≡ setup_refusal (setup q n k pack) }
 {
-    let refusal = settings::settings_refusal(q, n, k);
-    if refusal != 0 {
-        return Started {
-            receiver: empty_receiver(0, 0, 0, 0),
-            refusal,
-        };
+    match settings::check(q, n, k) {
+        Ok(()) => Started {
+            receiver: Receiver::empty(q, n, k, pack),
+            answer: Ok(()),
+        },
+        Err(refusal) => Started {
+            receiver: Receiver::empty(0, 0, 0, 0),
+            answer: Err(refusal),
+        },
     }
-    Started {
-        receiver: empty_receiver(q, n, k, pack),
-        refusal: 0,
-    }
 }
 
-// What the test of a receiver finds: whether it is one that Start and Take can leave, and its identifying vector; 0 where it is not.
-#[derive(Drop)]
-struct Formed {
-    formed: bool,
-    vector: u16,
-}
-
-// The refusal of Close, and what the receiver's test found of the vector.
-#[derive(Drop)]
-struct CloseTested {
-    refusal: u32,
-    vector: u16,
-}
-
-// The refusal of Take, what the receiver's test found of the vector, and whether the row, not refused, is zero.
-#[derive(Drop)]
-struct TakeTested {
-    refusal: u32,
+// What the tests of Take find where none refuses: the receiver's identifying vector, and whether the row is zero.
+#[derive(Clone, Copy)]
+struct Tested {
     vector: u16,
     zero: bool,
 }
 
-// Whether the receiver of these settings, dimension and entries, whatever its pack, is one that Start and Take can leave after an accepted
-// Start. The dimension is known to be at most n, and n at most 16, before the two are multiplied.
-fn well_formed(q: u64, n: u64, k: u64, dimension: u64, entries: &[u8]) -> Formed
-    requires { length entries.now ≡ 256 }
-    ensures { (pack : ℕ) → (result.formed ≡ well_formed (made (setup q n k pack) dimension entries.now))
-        × (result.vector ≡ pick (well_formed (made (setup q n k pack) dimension entries.now))
-        (identifying n dimension (used (made (setup q n k pack) dimension entries.now))) 0) }
-{
-    if n < dimension {
-        return Formed {
-            formed: false,
-            vector: 0,
-        };
-    }
-    if settings::settings_refusal(q, n, k) != 0 {
-        return Formed {
-            formed: false,
-            vector: 0,
-        };
-    }
-    let size = (dimension * n) as usize;
-    let walked = walk::rows(&entries[..size], n as usize, dimension as usize);
-    if walked.oversized(q) {
-        return Formed {
-            formed: false,
-            vector: 0,
-        };
-    }
-    if !matrix::entries_below(&entries[size..], 1) {
-        return Formed {
-            formed: false,
-            vector: 0,
-        };
-    }
-    Formed {
-        formed: walked.reduced,
-        vector: walked.vector,
-    }
-}
-
 impl Receiver {
+    // A receiver with this setup that holds no rows.
+    pub fn empty(q: u64, n: u64, k: u64, pack: u16) -> Receiver
+        ensures { result ≡ empty (setup q n k pack) }
+    {
+        Receiver {
+            entries: [0u8; 256],
+            q,
+            n,
+            k,
+            dimension: 0,
+            pack,
+        }
+    }
+
+    // The identifying vector, where the receiver is one that Start and Take can leave after an accepted Start. The dimension is known to be
+    // at most n, and n at most 16, before the two are multiplied.
+    fn formed(&self) -> Option<u16>
+        ensures { result ≡ then_some (well_formed self.now) (identifying self.now.n self.now.dimension (used self.now)) }
+    {
+        if self.n < self.dimension {
+            return None;
+        }
+        settings::check(self.q, self.n, self.k).ok()?;
+        let size = (self.dimension * self.n) as usize;
+        let walked = walk::rows(
+            &self.entries[..size],
+            self.n as usize,
+            self.dimension as usize,
+        );
+        if walked.oversized(self.q) {
+            return None;
+        }
+        if !matrix::entries_below(&self.entries[size..], 1) {
+            return None;
+        }
+        walked.reduced.then_some(walked.vector)
+    }
+
     // Whether the receiver is one that Start and Take can leave after an accepted Start.
     pub fn is_formed(self) -> bool
         ensures { result ≡ well_formed self }
     {
-        let entries = self.entries;
-        let found = well_formed(self.q, self.n, self.k, self.dimension, &entries);
-        found.formed
+        self.formed().is_some()
     }
 
-    // The first refusal of Take that applies; 0 where none does. The row's entries are looked at once.
-    fn take_refusal(self, pack: u16, row: &[u8]) -> TakeTested
-        ensures { (result.refusal ≡ take_refusal self (offer pack row.now))
-            × (result.vector ≡ pick (well_formed self) (identifying self.n self.dimension (used self)) 0)
-            × (result.refusal ≡ 0 → result.zero ≡ is_zero row.now) }
+    // Tests a row that is offered to Take: the first of the refusals 14, 17, 4, 6 that applies. The row's entries are looked at once.
+    fn check_take(self, pack: u16, row: &[u8]) -> Result<Tested, Refusal>
+        ensures refusal { number_of result ≡ take_refusal self (offer pack row.now) }
+        ensures tested { IfOk result (λ t. (t.vector ≡ identifying self.n self.dimension (used self)) × (t.zero ≡ is_zero row.now)) }
     {
-        let entries = self.entries;
-        let found = well_formed(self.q, self.n, self.k, self.dimension, &entries);
-        let vector = found.vector;
-        if !found.formed {
-            return TakeTested {
-                refusal: refusal::RECEIVER,
-                vector,
-                zero: false,
-            };
-        }
+        let vector = self.formed().ok_or(Refusal::Receiver)?;
         if pack != self.pack {
-            return TakeTested {
-                refusal: refusal::PACK,
-                vector,
-                zero: false,
-            };
+            return Err(Refusal::Pack);
         }
         if row.len() as u64 != self.n {
-            return TakeTested {
-                refusal: refusal::LENGTH,
-                vector,
-                zero: false,
-            };
+            return Err(Refusal::Length);
         }
         let greatest = matrix::greatest(row);
         if self.q <= greatest as u64 {
-            return TakeTested {
-                refusal: refusal::ENTRY,
-                vector,
-                zero: false,
-            };
+            return Err(Refusal::Entry);
         }
-        TakeTested {
-            refusal: 0,
+        Ok(Tested {
             vector,
             zero: greatest < 1,
-        }
-    }
-
-    // The first refusal of Close that applies, but for 8 and 9; 0 where none does.
-    fn close_refusal(self, t: u64) -> CloseTested
-        ensures { (result.refusal ≡ close_refusal self t)
-            × (result.vector ≡ pick (well_formed self) (identifying self.n self.dimension (used self)) 0) }
-    {
-        let entries = self.entries;
-        let found = well_formed(self.q, self.n, self.k, self.dimension, &entries);
-        let vector = found.vector;
-        if !found.formed {
-            return CloseTested {
-                refusal: refusal::RECEIVER,
-                vector,
-            };
-        }
-        if !numbering::is_numbering(t) {
-            return CloseTested {
-                refusal: refusal::NUMBERING,
-                vector,
-            };
-        }
-        CloseTested { refusal: 0, vector }
+        })
     }
 
     // The row taken in; every test has been made, found the receiver's identifying vector, and the row not zero.
@@ -246,12 +168,12 @@ impl Receiver {
         if before < dimension {
             return Taken {
                 receiver,
-                answer: TakeAnswer::Raised,
+                answer: Ok(Effect::Raised),
             };
         }
         Taken {
             receiver,
-            answer: TakeAnswer::Held,
+            answer: Ok(Effect::Held),
         }
     }
 
@@ -261,50 +183,51 @@ impl Receiver {
     pub fn take(self, pack: u16, row: &[u8]) -> Taken
         ensures { (result ≡ take_of self (offer pack row.now)) × TakeTells self (offer pack row.now) result }
     {
-        let tested = self.take_refusal(pack, row);
-        if tested.refusal != 0 {
-            return Taken {
+        match self.check_take(pack, row) {
+            Err(refusal) => Taken {
                 receiver: self,
-                answer: TakeAnswer::Refused(tested.refusal),
-            };
-        }
-        if tested.zero {
-            return Taken {
+                answer: Err(refusal),
+            },
+            Ok(tested) if tested.zero => Taken {
                 receiver: self,
-                answer: TakeAnswer::Idle,
-            };
+                answer: Ok(Effect::Idle),
+            },
+            Ok(tested) => self.taken_in(row, tested.vector),
         }
-        self.taken_in(row, tested.vector)
     }
 
     // Close: the index, in the numbering t, of the space of all rows taken, with its dimension and identifying vector. Refuses 14, 10, 8,
     // 9, the last two with the dimension and the vector. The receiver may take more rows.
-    pub fn close(self, t: u64) -> Received
+    pub fn close(self, t: u64) -> Result<(Index, Space), Unreceived>
         ensures value { result ≡ close_of self t }
         ensures told { Told self.q self.n self.k t self.dimension (used self) (close_refusal self t) result }
     {
-        let tested = self.close_refusal(t);
-        if tested.refusal != 0 {
-            return Received::Refused(tested.refusal);
-        }
-        let entries = self.entries;
+        let vector = self.formed().ok_or(Refusal::Receiver)?;
+        let numbering = Numbering::try_from(t)?;
         let size = (self.dimension * self.n) as usize;
         let space = Space {
             dimension: self.dimension,
-            vector: tested.vector,
+            vector,
         };
-        receive::space_answer(self.q, self.n, self.k, t, space, &entries[..size])
+        receive::space_answer(
+            self.q,
+            self.n,
+            self.k,
+            numbering,
+            space,
+            &self.entries[..size],
+        )
     }
 }
 
 // Take on a lent receiver: copies it out, takes the row into the copy, and stores that back.
-pub fn take_lent(r: &mut Receiver, pack: u16, row: &[u8]) -> TakeAnswer
+pub fn take_lent(r: &mut Receiver, pack: u16, row: &[u8]) -> Result<Effect, Refusal>
     ensures value { (result ≡ lent_answer r.old (offer pack row.now))
         × TakeTells r.old (offer pack row.now)
         (taken_as (lent_receiver r.old (offer pack row.now)) result) }
     ensures r_after { r.new ≡ lent_receiver r.old (offer pack row.now) }
 {
-    let t = (*r).take(pack, row);
-    *r = t.receiver;
-    t.answer
+    let taken = r.take(pack, row);
+    *r = taken.receiver;
+    taken.answer
 }

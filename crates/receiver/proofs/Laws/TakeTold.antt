@@ -2,7 +2,7 @@
 --   zero-idle == a zero row taken in leaves the receiver, with the answer "idle"
 --   take-told == the numbers and values that an answer of Take tells
 -- Assumes nothing.
-use Rattle.std.specs.Prelude.{◌≡◌, refl, Bool, false, ◌&&◌, ltb, length}
+use Rattle.std.specs.Prelude.{◌≡◌, refl, Bool, false, ◌&&◌, ltb, length, Ok}
 use Rattle.std.proofs.Math.Path.{ap, ap₂, sym, subst}
 use Rattle.std.proofs.Common.{◌∙◌, arith}
 use Rattle.std.proofs.Math.Bool.{true}
@@ -17,24 +17,24 @@ use Rattle.receiver.specs.Receiver.{Offer, held_rows, holding, is_zero, take_ref
 use Rattle.receiver.specs.Receiver.{TakeTells}
 use Rattle.receiver.specs.Laws.Sound.{Sound, sound}
 use Rattle.receiver.specs.Laws.Untouched.{spanned-untouched, zero-spanned, held-spanned}
-use Rattle.receiver.specs.Laws.TakeAccepted.{TakeAccepted, take-accepted, accepted-row}
+use Rattle.receiver.specs.Laws.TakeAccepted.{TakeAccepted, take-accepted, take-known, accepted-row}
 use Rattle.receiver.specs.declared.Receiver.{Receiver}
 use Rattle.receiver.specs.declared.Taken.{Taken}
-use Rattle.receiver.specs.declared.TakeAnswer.TheVariants.{Raised, Held, Idle}
+use Rattle.receiver.specs.declared.Effect.TheVariants.{Raised, Held, Idle}
 
 module _ (r : Receiver) (o : Offer) where
   -- what the answers for a row taken in tell, where a zero row does not let the dimension grow
-  accepted-number : (zero grew : Bool) → take_number (pick zero Idle (pick grew Raised Held)) ≡ 0
+  accepted-number : (zero grew : Bool) → take_number (Ok (pick zero Idle (pick grew Raised Held))) ≡ 0
   accepted-number true grew = refl
   accepted-number false true = refl
   accepted-number false false = refl
 
-  accepted-raised : (zero grew : Bool) → (zero ≡ true → grew ≡ false) → take_raised (pick zero Idle (pick grew Raised Held)) ≡ grew
+  accepted-raised : (zero grew : Bool) → (zero ≡ true → grew ≡ false) → take_raised (Ok (pick zero Idle (pick grew Raised Held))) ≡ grew
   accepted-raised true grew kept = sym (kept refl)
   accepted-raised false true kept = refl
   accepted-raised false false kept = refl
 
-  accepted-idle : (zero grew : Bool) → take_idle (pick zero Idle (pick grew Raised Held)) ≡ zero
+  accepted-idle : (zero grew : Bool) → take_idle (Ok (pick zero Idle (pick grew Raised Held))) ≡ zero
   accepted-idle true grew = refl
   accepted-idle false true = refl
   accepted-idle false false = refl
@@ -73,13 +73,13 @@ module _ (r : Receiver) (o : Offer) where
         raised = accepted-raised (is_zero o.row) grew still
 
     -- a zero row leaves the receiver, and is idle
-    pub zero-idle : take_refusal r o ≡ 0 → is_zero o.row ≡ true → taken_as r Idle ≡ taken_in r o
+    pub zero-idle : take_refusal r o ≡ 0 → is_zero o.row ≡ true → taken_as r (Ok Idle) ≡ taken_in r o
     unfolding taken_in
     zero-idle z e =
         let a = take-accepted r o z in
         let s = sound r size a.formed in
         ap₂ taken_as (sym (spanned-untouched r size s o.row (zero-spanned r size s o.row a.sized e)))
-        (ap (λ b. pick b Idle (pick (ltb r.dimension (dimension r.q r.n (held_rows r ++ (o.row ∷ [])))) Raised Held)) (sym e))
+        (ap (λ b. Ok (pick b Idle (pick (ltb r.dimension (dimension r.q r.n (held_rows r ++ (o.row ∷ [])))) Raised Held))) (sym e))
 
     pub take-told : (a : Taken) → a ≡ take_of r o → TakeTells r o a
     unfolding take_of
@@ -90,7 +90,7 @@ module _ (r : Receiver) (o : Offer) where
         cases (no z) =
             subst (TakeTells r o) (kept _ _ _ z ∙ sym e)
             (record {
-              number = refl;
+              number = take-known r o z;
               raised = sym (le-ltb r.dimension _ (omega arith));
               idle = sym (ap (λ b. b && is_zero o.row) (ne_eqb (take_refusal r o) 0 z));
               untouched = λ _. refl;

@@ -5,7 +5,7 @@
 --   taken-raised, taken-held == what the row reduction leaves in them is the receiver with the row taken in, by the answer, the row not
 --                               being zero
 -- Assumes nothing.
-use Rattle.std.specs.Prelude.{◌≡◌, false, ltb, get_or, drop}
+use Rattle.std.specs.Prelude.{◌≡◌, false, ltb, get_or, drop, Ok}
 use Rattle.std.proofs.Math.Path.{ap, ap₂}
 use Rattle.std.proofs.Common.{sym, ◌∙◌, subst, mul-le-mul_right, arith, lt-ltb, le-ltb, take-append-drop, take-take}
 use mathlib.Core.List.{List, [], ◌∷◌, ◌++◌, append_assoc}
@@ -34,7 +34,7 @@ use Rattle.receiver.specs.Laws.Sound.{Sound, used-fit}
 use Rattle.receiver.specs.Laws.Held.{settings-laws, held_kept, held-join, held-length, rest-zero}
 use Rattle.receiver.specs.declared.Receiver.{Receiver}
 use Rattle.receiver.specs.declared.Taken.{Taken}
-use Rattle.receiver.specs.declared.TakeAnswer.TheVariants.{Raised, Held, Idle}
+use Rattle.receiver.specs.declared.Effect.TheVariants.{Raised, Held, Idle}
 
 module _ (r : Receiver) (size : length r.entries ≡ 256) (s : Sound r) where
   -- the entries that are lent to the reduction
@@ -147,15 +147,15 @@ module _ (r : Receiver) (size : length r.entries ≡ 256) (s : Sound r) where
       next = dimension r.q r.n (held_rows r ++ (o.row ∷ []))
 
       module _ (nonzero : is_zero o.row ≡ false) where
-        taken_in_lem : ◌≡◌ {A = Taken} (taken_as left (pick (ltb r.dimension d) Raised Held)) (taken_in r o)
+        taken_in_lem : ◌≡◌ {A = Taken} (taken_as left (Ok (pick (ltb r.dimension d) Raised Held))) (taken_in r o)
         unfolding taken_in holding dimension reduced_of
         taken_in_lem =
             ap₂
-            (λ (e : List ℕ) (x : ℕ). taken_as (made (setup_of r) x e) (pick (ltb r.dimension x) Raised Held)) entries dimensions
-            ∙ ap (λ b. taken_as (taken_in r o).receiver (pick b Idle (pick (ltb r.dimension next) Raised Held))) (sym nonzero)
+            (λ (e : List ℕ) (x : ℕ). taken_as (made (setup_of r) x e) (Ok (pick (ltb r.dimension x) Raised Held))) entries dimensions
+            ∙ ap (λ b. taken_as (taken_in r o).receiver (Ok (pick b Idle (pick (ltb r.dimension next) Raised Held)))) (sym nonzero)
 
-        pub taken-raised : r.dimension < d → taken_as left Raised ≡ taken_in r o
-        taken-raised h = ap (λ b. taken_as left (pick b Raised Held)) (sym (lt-ltb r.dimension d h)) ∙ taken_in_lem
+        pub taken-raised : r.dimension < d → taken_as left (Ok Raised) ≡ taken_in r o
+        taken-raised h = ap (λ b. taken_as left (Ok (pick b Raised Held))) (sym (lt-ltb r.dimension d h)) ∙ taken_in_lem
 
-        pub taken-held : d ≤ r.dimension → taken_as left Held ≡ taken_in r o
-        taken-held h = ap (λ b. taken_as left (pick b Raised Held)) (sym (le-ltb r.dimension d h)) ∙ taken_in_lem
+        pub taken-held : d ≤ r.dimension → taken_as left (Ok Held) ≡ taken_in r o
+        taken-held h = ap (λ b. taken_as left (Ok (pick b Raised Held))) (sym (le-ltb r.dimension d h)) ∙ taken_in_lem

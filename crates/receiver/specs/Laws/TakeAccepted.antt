@@ -4,10 +4,11 @@
 --   take-forged, -foreign, -long, -large, -row == which refusal Take names; none for a row of the receiver's pack
 --   foreign-only, unforged      == 17 is named for no row of the receiver's pack, and 14 for no receiver that passes the test
 --   accepted-row                == a row that is not refused is a row
+--   take-known, close-known     == what these tests come to is a refusal, or none
 --   close-told                  == the numbers and values that an answer of Close tells
 -- Assumes nothing.
 use Rattle.std.specs.Prelude.{◌≡◌, refl, Bool, false, ℕ, ◌≤◌, T, eqb, length}
-use Rattle.std.proofs.Math.Path.{sym, subst}
+use Rattle.std.proofs.Math.Path.{sym}
 use Rattle.std.proofs.Common.{◌∙◌, arith}
 use Rattle.std.proofs.Math.Bool.{true}
 use mathlib.Core.List.{[], ◌∷◌}
@@ -15,15 +16,15 @@ use Rattle.std.proofs.Math.Decide.{ℕ_discrete}
 use borrow.Author.Tests.{eq-eqb, ne_eqb, eqb-true}
 use Rattle.basics.specs.Laws.Choice.{is_false, holds}
 use Rattle.refusal.specs.Refusal.{receiver_refusal, pack_refusal, length_refusal, entry_refusal, numbering_refusal, refuse_unless}
-use Rattle.refusal.specs.Laws.First.{test_zero, test-refused, test-passed, first-none, kept, done}
+use Rattle.refusal.specs.Laws.First.{test_zero, test-refused, test-passed, first-none, Known, known-none, known-test, known-first}
+use Rattle.refusal.specs.declared.Refusal.TheVariants as refusals
 use Rattle.matrix.specs.Matrix.{entries_below}
 use Rattle.matrix.specs.Laws.Tests.{entries_below_lem, entries-below-true}
 use Rattle.linear.specs.Span.{Row}
 use Rattle.linear.specs.Laws.Every.{all-at, all_of}
 use Rattle.numbering.specs.Numbering.{is_numbering}
-use Rattle.receive.specs.Answer.{Told}
-use Rattle.receive.proofs.Laws.Space.{space-told, refused-told}
-use Rattle.receive.specs.declared.Received.{Received}
+use Rattle.receive.specs.Answer.{Received, Told}
+use Rattle.receive.proofs.Laws.Space.{received-told}
 use Rattle.receiver.specs.Receiver.{Offer, used, well_formed, take_refusal}
 use Rattle.receiver.specs.Receiver.{close_refusal, close_of}
 use Rattle.receiver.specs.declared.Receiver.{Receiver}
@@ -35,6 +36,13 @@ pub record TakeAccepted (r : Receiver) (o : Offer) : Type 0 where
   pub below : T (entries_below r.q o.row)
 
 module _ (r : Receiver) (o : Offer) where
+  pub take-known : Known (take_refusal r o)
+  unfolding take_refusal
+  take-known =
+      known-first _ _ (known-test _ refusals.Receiver)
+      (known-first _ _ (known-test _ refusals.Pack)
+      (known-first _ _ (known-test _ refusals.Length) (known-first _ _ (known-test _ refusals.Entry) known-none)))
+
   pub take-accepted : take_refusal r o ≡ 0 → TakeAccepted r o
   unfolding take_refusal
   take-accepted z =
@@ -125,14 +133,10 @@ module _ (r : Receiver) (t : ℕ) where
   unfolding close_refusal
   close-unrefused w b = test-passed _ _ _ w ∙ test-passed _ _ _ b ∙ first-none
 
+  pub close-known : Known (close_refusal r t)
+  unfolding close_refusal
+  close-known = known-first _ _ (known-test _ refusals.Receiver) (known-first _ _ (known-test _ refusals.Numbering) known-none)
+
   pub close-told : (a : Received) → a ≡ close_of r t → Told r.q r.n r.k t r.dimension (used r) (close_refusal r t) a
   unfolding close_of
-  close-told a e = cases (ℕ_discrete (close_refusal r t) 0)
-    where
-      cases : Dec (close_refusal r t ≡ 0) → Told r.q r.n r.k t r.dimension (used r) (close_refusal r t) a
-      cases (yes z) =
-          subst (Told r.q r.n r.k t r.dimension (used r) (close_refusal r t)) (done _ _ _ z ∙ sym e)
-          (space-told r.q r.n r.k t r.dimension (used r) (close_refusal r t) z)
-      cases (no z) =
-          subst (Told r.q r.n r.k t r.dimension (used r) (close_refusal r t)) (kept _ _ _ z ∙ sym e)
-          (refused-told r.q r.n r.k t r.dimension (used r) (close_refusal r t) z)
+  close-told a e = rw e (received-told r.q r.n r.k t r.dimension (used r) (close_refusal r t) close-known)

@@ -1,4 +1,4 @@
--- `receiver::well_formed`: the test of a receiver, part by part; no part of the meaning.
+-- The test of a receiver, part by part; no part of the meaning.
 --   formed-settings, -dimension == one of these parts fails
 --   formed-entries, -rest == a part that fails, after those before it
 --   formed-reduced            == the last part, after all others
