@@ -14,29 +14,22 @@ use Rattle.text.specs.Piece.{fits, place_after, buffer_after, joined, place_with
 use Rattle.text.proofs.Theorems.{piece-fits, fits-piece}
 
 module _ (buffer : List ℕ) (at : ℕ) (piece : List ℕ) where
-  left : fits (length buffer) at piece ≡ false → buffer ≡ buffer_after buffer at piece
-  unfolding buffer_after
-  left e = simp e
-
-  put : fits (length buffer) at piece ≡ true
-      → (at + length piece ≡ place_after (length buffer) at piece) × (paste buffer at piece (length piece) ≡ buffer_after buffer at piece)
-  unfolding place_after buffer_after
-  put e = (simp e, simp e)
-
   pub refused : fits (length buffer) at piece ≡ false → Appended buffer at piece None buffer
-  refused e = (simp e, left e)
+  unfolding place_after buffer_after
+  refused e = (simp e, sym e, simp e)
 
   pub fitted : fits (length buffer) at piece ≡ true
       → Appended buffer at piece (Some (at + length piece)) (paste buffer at piece (length piece))
-  fitted e = (simp e (ap Some (put e).0), (put e).1)
+  unfolding place_after buffer_after
+  fitted e = (simp e, sym e, simp e)
 
 pub buffer_after-length : (buffer : List ℕ) (at : ℕ) (piece : List ℕ) → length (buffer_after buffer at piece) ≡ length buffer
 buffer_after-length buffer at piece = cases (fits (length buffer) at piece) refl
   where
     cases : (b : Bool) → fits (length buffer) at piece ≡ b → length (buffer_after buffer at piece) ≡ length buffer
-    cases false e = ap length (sym (left buffer at piece e))
+    cases false e = ap length (sym (refused buffer at piece e).2)
     cases true e =
-        ap length (sym (put buffer at piece e).1)
+        ap length (sym (fitted buffer at piece e).2)
         ∙ length-paste buffer at piece (length piece) (fits-piece (length buffer) at piece e) (le_refl (length piece))
 
 pub buffer_with-length : (buffer : List ℕ) (at : ℕ) (pieces : List (List ℕ)) → length (buffer_with buffer at pieces) ≡ length buffer
@@ -62,10 +55,10 @@ with-room b at [] h = (sym (add-zero at), paste-zero b at [])
 with-room b at (p ∷ pieces) h =
     let c = joined pieces in
     let sum : length (p ++ c) ≡ length p + length c = length-append p c in
-    let f = put b at p (piece-fits (length b) at p (omega arith)) in
+    let f = fitted b at p (piece-fits (length b) at p (omega arith)) in
     let more = with-room (buffer_after b at p) (place_after (length b) at p) pieces (omega (arith, buffer_after-length b at p, f.0)) in (
       more.0 ∙ omega (arith, f.0),
-      more.1 ∙ ap₂ (λ x y. paste x y c (length c)) (sym f.1) (sym f.0) ∙ paste-paste b at p c (omega arith),
+      more.1 ∙ ap₂ (λ x y. paste x y c (length c)) (sym f.2) (sym f.0) ∙ paste-paste b at p c (omega arith),
     )
 
 pub pieces-put : (buffer : List ℕ) (pieces : List (List ℕ)) (size : ℕ) (after : List ℕ) → length (joined pieces) ≤ length buffer

@@ -9,7 +9,7 @@
 --   Composed            == what a function that puts a line together answers and leaves: how far the buffer is filled, and the buffer
 -- Theorems has what these come to: `piece-fits`, `piece-put` and `piece-refused`.
 -- Assumes nothing.
-use Rattle.std.specs.Prelude.{◌≡◌, Bool, Option, None, Some, List, [], ◌∷◌, ◌++◌, ℕ, ◌+◌, leb, length}
+use Rattle.std.specs.Prelude.{◌≡◌, Bool, Option, is_some, unwrap_or, List, [], ◌∷◌, ◌++◌, ℕ, ◌+◌, leb, length}
 use Rattle.std.proofs.Math.Seq.{paste}
 use Rattle.basics.specs.Choice.{pick}
 
@@ -25,7 +25,8 @@ buffer_after buffer at piece = pick (fits (length buffer) at piece) (paste buffe
 -- the buffer, the place and the piece that a function is given, how far it says that the buffer is filled, and the buffer that it leaves
 abbrev pub Appended : List ℕ → ℕ → List ℕ → Option ℕ → List ℕ → Type 0
 Appended buffer at piece filled after =
-    (filled ≡ pick (fits (length buffer) at piece) (Some (place_after (length buffer) at piece)) None) × (after ≡ buffer_after buffer at piece)
+    (unwrap_or filled at ≡ place_after (length buffer) at piece) × (is_some filled ≡ fits (length buffer) at piece)
+    × (after ≡ buffer_after buffer at piece)
 
 abbrev pub joined : List (List ℕ) → List ℕ
 joined [] = []

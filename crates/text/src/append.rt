@@ -1,7 +1,7 @@
 // Pieces of text put into a lent buffer that is filled up to some place. Each function answers how far the buffer is filled then; None where
 // the piece does not fit, which leaves the buffer as it was.
-ghost use Rattle.std.specs.Prelude.{◌≡◌, [], ◌∷◌, ◌+◌, ◌<◌, ◌≤◌, leb, drop};
-ghost use Rattle.text.specs.Text.{glyph, numeral};
+ghost use Rattle.std.specs.Prelude.{◌≡◌, ◌+◌, ◌≤◌, leb, drop};
+ghost use Rattle.text.specs.Text.{numeral};
 ghost use Rattle.text.specs.Piece.{Appended};
 
 // The byte of the digit 0.
@@ -27,21 +27,6 @@ pub fn append(buffer: &mut [u8], at: usize, piece: &[u8]) -> Option<usize>
     let end = at + piece.len();
     buffer[at..end].copy_from_slice(piece);
     Some(end)
-}
-
-// Puts one byte in.
-pub fn append_byte(buffer: &mut [u8], at: usize, byte: u8) -> Option<usize>
-    ensures { Appended buffer.old at (byte ∷ []) result buffer.new }
-{
-    append(buffer, at, &[byte])
-}
-
-// Puts a decimal digit in.
-pub fn append_digit(buffer: &mut [u8], at: usize, d: u8) -> Option<usize>
-    requires { d < 10 }
-    ensures { Appended buffer.old at (glyph d ∷ []) result buffer.new }
-{
-    append_byte(buffer, at, ZERO + d)
 }
 
 // Writes the digits of x to the array's end, the last first, and answers where they begin. By hand: std's `{x}` writes part by part, where a

@@ -1,5 +1,5 @@
 -- The room is tested for the whole text, of which the first bytes are then in their places.
-use Rattle.std.proofs.Common.{◌≡◌, ◌+◌, ◌∙◌, Bool, Some, ap, ap₂, sym, add-one, arith, leb, length, set, List, ℕ}
+use Rattle.std.proofs.Common.{◌≡◌, ◌+◌, ◌∙◌, Bool, ap, ap₂, sym, add-one, arith, leb, length, set, List, ℕ}
 use Rattle.std.proofs.Math.Seq.{paste, paste-zero, paste-suc}
 use borrow.Author.Tests.{leb-true}
 use Rattle.text.specs.Piece.{fits}
@@ -44,4 +44,4 @@ returns c =
     let f =
     fitted c.args.buffer.now c.args.at text
     (tested r.n r.k _ c.args.at r.entries.now c.args.buffer.now _ size c.has_room.ensures ∙ c.if-not-has_room.false) in
-    (ap (λ x. Some (c.args.at + x)) size ∙ f.0, c.loop-place.invariant ∙ ap (paste c.args.buffer.now c.args.at text) (place ∙ size) ∙ f.1)
+    (ap (λ x. c.args.at + x) size ∙ f.0, f.1, c.loop-place.invariant ∙ ap (paste c.args.buffer.now c.args.at text) (place ∙ size) ∙ f.2)

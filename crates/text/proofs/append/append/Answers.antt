@@ -10,4 +10,4 @@ returns-then-not-has_room c =
 pub returns : goal.returns
 returns c =
     let f = fitted c.args.buffer.now c.args.at c.args.piece.now (sym c.has_room.ensures ∙ c.if-not-has_room.false) in
-    (f.0, copied _ _ _ _ c.copy_from_slice.ensures.after ∙ f.1)
+    (f.0, f.1, copied _ _ _ _ c.copy_from_slice.ensures.after ∙ f.2)
