@@ -21,12 +21,12 @@ unfolding listing_line line_text
 line q n k i f m drawn numbered =
     ap₂ (λ j t. numeral i ++ (comma ∷ (numeral j ++ (comma ∷ (rows_text n k t ++ (line_feed ∷ [])))))) numbered drawn
 
-pub put_space-requires : goal.put_space-requires
-put_space-requires c =
+pub invariant_of-rows : goal.invariant_of-rows
+invariant_of-rows c =
     let s = c.args.settings in
     let drawn : c.unrank_indexes-found.new.m ≡ drawn_extended s.q s.n s.k c.args.index.0 =
     c.unrank_indexes-found.ensures.m_after ∙ sym (ap (λ N. N.matrix s.q s.n s.k c.args.index.0) (is-extended extended refl)) in
-    rw drawn (digit-rows s.q s.n s.k c.args.index.0 c.requires.0.settings c.requires.1)
+    rw drawn (record { digits = digit-rows s.q s.n s.k c.args.index.0 c.requires.0.settings c.requires.1 })
 
 pub returns : goal.returns
 returns c =
