@@ -17,7 +17,8 @@ use Rattle.refusal.specs.Refusal.{number, named}
 use Rattle.refusal.specs.Laws.First.{Known, known-none, known-test, known-first, number-positive, named-number}
 use Rattle.refusal.specs.declared.Refusal.{Refusal}
 use Rattle.refusal.specs.declared.Refusal.TheVariants as refusals
-use Rattle.settings.specs.Settings.{settings_refusal, list_refusal}
+use Rattle.settings.specs.Settings.{list_refusal}
+use Rattle.settings.specs.Laws.Accepted.{settings-known}
 use Rattle.settings_line.specs.SettingsLine.{parsed}
 use Rattle.settings_line.specs.declared.Settings.{Settings}
 use Rattle.listing.specs.Listing.{lines_from}
@@ -106,12 +107,9 @@ module _ (input : List ℕ) (x : Settings) (e : parsed input ≡ Some x) where
 
 -- what refuses a listing is a refusal's number
 pub listing-known : (q n k : ℕ) → Known (list_refusal q n k)
-unfolding list_refusal settings_refusal
+unfolding list_refusal
 listing-known q n k =
-    known-first _ _
-    (known-first _ _ (known-test _ refusals.FieldSize)
-    (known-first _ _ (known-test _ refusals.Range) (known-first _ _ (known-test _ refusals.Count) known-none)))
-    (known-first _ _ (known-test _ refusals.Listing) known-none)
+    known-first _ _ (settings-known q n k) (known-first _ _ (known-test _ refusals.Listing) known-none)
 
 pub chunk-live : (p : Progress) → live p ≡ true
     → lines_chunk p ≡ lines_of p p.index.0 (lines_end (count_of p) p.index.0 - p.index.0)
