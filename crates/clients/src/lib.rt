@@ -38,7 +38,7 @@ use receive::Received;
 use receiver::{Receiver, Started, Taken};
 use reduce::Reduction;
 use settings::Counted;
-use settings_line::Parsed;
+use settings_line::Settings;
 
 pub fn count(q: u64, n: u64, k: u64) -> Counted
     ensures value { result ≡ count_of q n k }
@@ -176,7 +176,7 @@ pub fn pool_two(a: Receiver, b: Receiver, joint: &mut [u8], common: &mut [u8]) -
     pool::pool(a, b, joint, common)
 }
 
-pub fn parse(text: &[u8]) -> Parsed
+pub fn parse(text: &[u8]) -> Option<Settings>
     ensures { result ≡ parsed text.now }
 {
     settings_line::parse(text)

@@ -7,7 +7,7 @@
 --   refused_word, refused_line r == "refused"; this, a comma, the number r and a line feed
 --   listing_output input    == all that the program writes for the bytes of its input; output_for found == for what these are found to be
 -- Assumes nothing.
-use Rattle.std.specs.Prelude.{true, false, List, [], ◌∷◌, ◌++◌, ℕ, zero, suc, eqb}
+use Rattle.std.specs.Prelude.{Option, Some, None, true, false, List, [], ◌∷◌, ◌++◌, ℕ, zero, suc, eqb}
 use Rattle.refusal.specs.Refusal.{line_refusal}
 use Rattle.counts.specs.Gaussian.{gaussian}
 use Rattle.settings.specs.Settings.{list_refusal}
@@ -15,8 +15,7 @@ use Rattle.extended.specs.Drawn.{drawn_extended}
 use Rattle.ferrers.specs.Ferrers.{ferrers_index}
 use Rattle.text.specs.Text.{comma, line_feed, numeral}
 use Rattle.settings_line.specs.SettingsLine.{parsed}
-use Rattle.settings_line.specs.declared.Parsed.{Parsed}
-use Rattle.settings_line.specs.declared.Parsed.TheVariants.{Settings as settings, Malformed}
+use Rattle.settings_line.specs.declared.Settings.{Settings}
 use Rattle.listing.specs.Line.{line_text}
 
 unfoldable pub listing_line : ℕ → ℕ → ℕ → ℕ → List ℕ
@@ -38,9 +37,9 @@ refused_word = 114 ∷ 101 ∷ 102 ∷ 117 ∷ 115 ∷ 101 ∷ 100 ∷ []
 unfoldable pub refused_line : ℕ → List ℕ
 refused_line r = refused_word ++ (comma ∷ (numeral r ++ (line_feed ∷ [])))
 
-abbrev pub output_for : Parsed → List ℕ
-output_for Malformed = refused_line line_refusal
-output_for (settings x) =
+abbrev pub output_for : Option Settings → List ℕ
+output_for None = refused_line line_refusal
+output_for (Some x) =
     elim (eqb (list_refusal x.q x.n x.k) 0) [
       | true ↦ header ++ lines_from x.q x.n x.k 0 (gaussian x.q x.n x.k)
       | false ↦ refused_line (list_refusal x.q x.n x.k)

@@ -9,16 +9,17 @@
 --   program-writes-the-output == the chunks of 1,026 steps begun with the first 13 bytes are the output of the whole input
 --   line-fits        == "a listing line, at most 276 bytes, always fits" in the lent 320
 -- Assumes nothing.
-use Rattle.std.specs.Prelude.{◌≡◌, refl, Bool, true, false, List, [], ◌++◌, ℕ, zero, suc, ◌+◌, ◌*◌, ◌-◌, ◌≤◌, ◌<◌, eqb, length, take}
+use Rattle.std.specs.Prelude.{Option, Some, None, ◌≡◌, refl, Bool, true, false, List, [], ◌++◌, ℕ, zero, suc, ◌+◌, ◌*◌, ◌-◌, ◌≤◌, ◌<◌, eqb, length, take}
+use Rattle.std.proofs.lemmas.Bool.{eqb-false}
 use Rattle.std.proofs.Common.{ap, ap₂, ◌∙◌, sym, append_assoc, append-nil, arith, eqb-true, length-append}
 use Rattle.std.proofs.Math.Nat.{sub-zero}
 use Rattle.counts.specs.Gaussian.{gaussian}
+use Rattle.refusal.specs.Refusal.{number, named}
 use Rattle.settings.specs.Settings.{list_refusal}
 use Rattle.settings.specs.Laws.Listable.{listable}
 use Rattle.settings_line.specs.SettingsLine.{decisive, parsed}
+use Rattle.settings_line.specs.declared.Settings.{Settings}
 use Rattle.settings_line.specs.Theorems.{parsed-bounded}
-use Rattle.settings_line.specs.declared.Parsed.{Parsed}
-use Rattle.settings_line.specs.declared.Parsed.TheVariants.{Settings as settings, Malformed}
 use Rattle.text.specs.Piece.{fits}
 use Rattle.text.proofs.Theorems.{piece-fits}
 use Rattle.listing.specs.Line.{line_room, longest_line}
@@ -26,21 +27,21 @@ use Rattle.listing.specs.Listing.{listing_line, lines_from, column_names, header
 use Rattle.listing.specs.Listing.{listing_output}
 use Rattle.listing.specs.Laws.Listing.{lines-append}
 use Rattle.listing.specs.Laws.Line.{line-short, line-nonempty}
-use Rattle.listing.specs.Laws.Steps.{count_of, live-is, end-within, remaining-live, remaining-dead, remaining-from, chunk-live}
+use Rattle.listing.specs.Laws.Steps.{listing-known, live-is, end-within, remaining-live, remaining-dead, remaining-from, chunk-live}
 use Rattle.listing.specs.Laws.Steps.{chunk-dead, next-live, next-dead, past-dead}
-use Rattle.listing.specs.Steps.{chunk_lines, most_steps, live, lines_end, progress_to, started, remaining_lines, remaining, begun_for}
+use Rattle.listing.specs.Steps.{count_of, lines_of, chunk_lines, most_steps, live, lines_end, progress_to, started, remaining_lines, remaining, begun_for}
 use Rattle.listing.specs.Steps.{begun}
 use Rattle.listing.specs.Steps.{lines_chunk, chunk_of, lines_next, next_state, state_after, chunks}
 use Rattle.listing.specs.declared.Progress.{Progress}
 use Rattle.listing.specs.declared.State.{State}
 use Rattle.listing.specs.declared.State.TheVariants.{Header, Lines, Refused, Done}
 
-output-for : (found : Parsed) → remaining (begun_for found) ≡ output_for found
-output-for Malformed = refl
-output-for (settings x) = cases (eqb (list_refusal x.q x.n x.k) 0) refl
+output-for : (found : Option Settings) → remaining (begun_for found) ≡ output_for found
+output-for None = refl
+output-for (Some x) = cases (eqb (list_refusal x.q x.n x.k) 0) refl
   where
     cases : (b : Bool) → eqb (list_refusal x.q x.n x.k) 0 ≡ b
-        → remaining (elim b [ true ↦ Header x | false ↦ Refused (list_refusal x.q x.n x.k) ])
+        → remaining (elim b [ true ↦ Header x | false ↦ Refused (named (list_refusal x.q x.n x.k)) ])
         ≡ elim b [
           | true ↦ header ++ lines_from x.q x.n x.k 0 (gaussian x.q x.n x.k)
           | false ↦ refused_line (list_refusal x.q x.n x.k)
@@ -49,7 +50,7 @@ output-for (settings x) = cases (eqb (list_refusal x.q x.n x.k) 0) refl
         ap (λ t. header ++ t)
         (remaining-from (started x) (eqb-true (list_refusal x.q x.n x.k) 0 e)
         ∙ ap (lines_from x.q x.n x.k 0) (sub-zero (gaussian x.q x.n x.k)))
-    cases false e = refl
+    cases false e = ap refused_line (listing-known x.q x.n x.k (eqb-false (list_refusal x.q x.n x.k) 0 e))
 
 pub begun-remaining : (input : List ℕ) → remaining (begun input) ≡ listing_output input
 unfolding begun listing_output
@@ -62,20 +63,20 @@ lines-remaining p true e =
     let end = lines_end (count_of p) p.index.0 in
     let known = live-is p e in
     let within = end-within (count_of p) p.index.0 known.1 in
-    let lines = lines_from p.q p.n p.k in
+    let lines = lines_of p in
     let place : p.index.0 + (end - p.index.0) ≡ end = omega arith in
     let size : (end - p.index.0) + (count_of p - end) ≡ count_of p - p.index.0 = omega arith in
     ap₂ (λ c s. c ++ remaining s) (chunk-live p e) (next-live p e)
     ∙ ap (λ t. lines p.index.0 (end - p.index.0) ++ t)
     (remaining-from (progress_to p end) known.0 ∙ ap (λ j. lines j (count_of p - end)) (sym place))
-    ∙ sym (lines-append p.q p.n p.k p.index.0 (end - p.index.0) (count_of p - end))
+    ∙ sym (lines-append p.settings.q p.settings.n p.settings.k p.index.0 (end - p.index.0) (count_of p - end))
     ∙ ap (lines p.index.0) size
     ∙ sym (remaining-live p e)
 
 pub chunk-remaining : (s : State) → chunk_of s ++ remaining (next_state s) ≡ remaining s
 chunk-remaining (Header x) = refl
 chunk-remaining (Lines p) = lines-remaining p (live p) refl
-chunk-remaining (Refused r) = append-nil (refused_line r)
+chunk-remaining (Refused r) = append-nil (refused_line (number r))
 chunk-remaining Done = refl
 
 some-lines : (q n k i m : ℕ) → 1 ≤ m → length (lines_from q n k i m) ≡ 0 → ⊥
@@ -88,7 +89,7 @@ lines-empty p false e z = (remaining-dead p e, next-dead p e)
 lines-empty p true e z =
     let within = end-within (count_of p) p.index.0 (live-is p e).1 in
     absurd
-    (some-lines p.q p.n p.k p.index.0 (lines_end (count_of p) p.index.0 - p.index.0) (omega arith)
+    (some-lines p.settings.q p.settings.n p.settings.k p.index.0 (lines_end (count_of p) p.index.0 - p.index.0) (omega arith)
     (sym (ap length (chunk-live p e)) ∙ z))
 
 pub chunk-empty : (s : State) → length (chunk_of s) ≡ 0 → (remaining s ≡ []) × (next_state s ≡ Done)
@@ -120,7 +121,7 @@ after-lines (suc m) p h = after-step (suc m) (Lines p) ∙ cases (live p) refl (
         ap (state_after (suc m)) (next-live p e) ∙ ih (progress_to p (lines_end (count_of p) p.index.0)) (omega arith)
 
 after_any : (m : ℕ) (p : Progress) (b : Bool) → live p ≡ b → 1024 ≤ m → state_after (suc m) (Lines p) ≡ Done
-after_any m p true e h = after-lines m p (omega (arith, (listable p.q p.n p.k (live-is p e).0).few))
+after_any m p true e h = after-lines m p (omega (arith, (listable p.settings.q p.settings.n p.settings.k (live-is p e).0).few))
 after_any m p false e h = after-step m (Lines p) ∙ ap (state_after m) (next-dead p e) ∙ after-done m
 
 pub finished : (s : State) → state_after most_steps s ≡ Done

@@ -8,23 +8,22 @@ ghost use Rattle.listing.specs.Steps.{chunk_size, lines_end, begun, lines_chunk,
 ghost use Rattle.listing.specs.Front.{written};
 
 use extended::ExtendedIndex;
-use settings_line::{Parsed, Settings};
+use refusal::Refusal;
+use settings_line::Settings;
 
 // A listing in progress: its settings, and the extended index of the next line.
-#[derive(Drop)]
+#[derive(Clone, Copy)]
 pub struct Progress {
-    pub q: u64,
-    pub n: u64,
-    pub k: u64,
+    pub settings: Settings,
     pub index: ExtendedIndex,
 }
 
 // What is still to be written.
-#[derive(Drop)]
+#[derive(Clone, Copy)]
 pub enum State {
     Header(Settings),
     Lines(Progress),
-    Refused(u32),
+    Refused(Refusal),
     Done,
 }
 
@@ -40,15 +39,13 @@ pub const MOST_STEPS: u64 = 1026;
 pub fn begin(input: &[u8]) -> State
     ensures { result ≡ begun input.now }
 {
-    let found = settings_line::parse(input);
-    let Parsed::Settings(settings) = found else {
-        return State::Refused(refusal::LINE);
+    let Some(settings) = settings_line::parse(input) else {
+        return State::Refused(Refusal::Line);
     };
-    let refusal = settings::list_refusal(settings.q, settings.n, settings.k);
-    if refusal != 0 {
-        return State::Refused(refusal);
+    match settings::check_listing(settings.q, settings.n, settings.k) {
+        Ok(()) => State::Header(settings),
+        Err(refusal) => State::Refused(refusal),
     }
-    State::Header(settings)
 }
 
 // The index up to which the next chunk lists.
@@ -56,14 +53,11 @@ fn lines_end(count: u64, index: ExtendedIndex) -> ExtendedIndex
     requires { index.0 ≤ count }
     ensures { result.0 ≡ lines_end count index.0 }
 {
-    if count - index.0 < CHUNK_LINES {
-        return ExtendedIndex(count);
-    }
-    ExtendedIndex(index.0 + CHUNK_LINES)
+    ExtendedIndex(index.0 + CHUNK_LINES.min(count - index.0))
 }
 
 // What a step answers: the state after it, and how many bytes of the chunk it wrote.
-#[derive(Drop)]
+#[derive(Clone, Copy)]
 pub struct Stepped {
     pub state: State,
     pub size: usize,
@@ -75,16 +69,14 @@ fn lines_step(progress: Progress, chunk: &mut [u8]) -> Stepped
     ensures { (result.state ≡ lines_next progress) × (result.size ≡ length (lines_chunk progress))
         × (chunk.new ≡ written (lines_chunk progress) chunk.old) }
 {
-    let q = progress.q;
-    let n = progress.n;
-    let k = progress.k;
-    let index = progress.index;
-    if settings::list_refusal(q, n, k) != 0 {
+    let Progress { settings, index } = progress;
+    let Settings { q, n, k } = settings;
+    let Ok(()) = settings::check_listing(q, n, k) else {
         return Stepped {
             state: State::Done,
             size: 0,
         };
-    }
+    };
     let count = counts::coefficient(q, n, k);
     if count <= index.0 {
         return Stepped {
@@ -93,9 +85,12 @@ fn lines_step(progress: Progress, chunk: &mut [u8]) -> Stepped
         };
     }
     let to = lines_end(count, index);
-    let size = write::write_lines(chunk, q, n, k, index, to);
+    let size = write::write_lines(chunk, settings, index, to);
     Stepped {
-        state: State::Lines(Progress { q, n, k, index: to }),
+        state: State::Lines(Progress {
+            settings,
+            index: to,
+        }),
         size,
     }
 }
@@ -106,26 +101,18 @@ pub fn step(state: State, chunk: &mut [u8; CHUNK_SIZE]) -> Stepped
         × (chunk.new ≡ written (chunk_of state) chunk.old) }
 {
     match state {
-        State::Header(settings) => {
-            let size = write::write_header(chunk);
-            Stepped {
-                state: State::Lines(Progress {
-                    q: settings.q,
-                    n: settings.n,
-                    k: settings.k,
-                    index: ExtendedIndex(0),
-                }),
-                size,
-            }
-        }
+        State::Header(settings) => Stepped {
+            state: State::Lines(Progress {
+                settings,
+                index: ExtendedIndex(0),
+            }),
+            size: write::write_header(chunk),
+        },
         State::Lines(progress) => lines_step(progress, chunk),
-        State::Refused(number) => {
-            let size = write::write_refused(chunk, number);
-            Stepped {
-                state: State::Done,
-                size,
-            }
-        }
+        State::Refused(refusal) => Stepped {
+            state: State::Done,
+            size: write::write_refused(chunk, refusal),
+        },
         State::Done => Stepped {
             state: State::Done,
             size: 0,

@@ -9,11 +9,10 @@
 --   marked_at text at most mark  == the same, where the byte `mark` follows, with the cursor past the mark
 -- laws.Marked shows what is read: exactly the numerals.
 -- Assumes nothing.
-use Rattle.std.specs.Prelude.{Bool, true, false, ◌&&◌, ◌||◌, not, List, [], ◌∷◌, ℕ, ◌+◌, ◌*◌, ◌-◌, leb, ltb, eqb, length, get_or, drop}
+use Rattle.std.specs.Prelude.{Option, Some, None, Bool, true, false, ◌&&◌, ◌||◌, not, List, [], ◌∷◌, ℕ, ◌+◌, ◌*◌, ◌-◌, leb, ltb, eqb, length, get_or, drop}
 use Rattle.basics.specs.Choice.{pick}
 use Rattle.text.specs.Text.{glyph}
-use Rattle.settings_line.specs.declared.decimal.Decimal.{Decimal}
-use Rattle.settings_line.specs.declared.decimal.Decimal.TheVariants.{Number, None}
+use Rattle.settings_line.specs.declared.decimal.Numeral.{Numeral}
 
 unfoldable pub is_digit : ℕ → Bool
 is_digit b = leb (glyph 0) b && leb b (glyph 9)
@@ -33,20 +32,20 @@ abbrev pub greatest : ℕ
 greatest = 18446744073709551615
 
 -- the number of the digits s that stand at the cursor, where the test holds
-abbrev pub read_if : Bool → ℕ → List ℕ → Decimal
-read_if b at s = pick b (Number (record { value = reading 0 s; end = at + length s })) None
+abbrev pub read_if : Bool → ℕ → List ℕ → Option Numeral
+read_if b at s = pick b (Some (record { value = reading 0 s; end = at + length s })) None
 
-unfoldable pub read_at : List ℕ → ℕ → Decimal
+unfoldable pub read_at : List ℕ → ℕ → Option Numeral
 read_at text at = let s = digit_run (drop at text) in read_if (leb (reading 0 s) greatest) at s
 
-unfoldable pub decimal_at : List ℕ → ℕ → ℕ → Decimal
+unfoldable pub decimal_at : List ℕ → ℕ → ℕ → Option Numeral
 decimal_at text at most = let s = digit_run (drop at text) in read_if (leb (reading 0 s) greatest && is_numeral most s) at s
 
 -- what was read, where the byte `mark` follows it
-abbrev pub marked : List ℕ → ℕ → Decimal → Decimal
-marked text mark (Number x) =
-    pick (ltb x.end (length text) && eqb (get_or text x.end 0) mark) (Number (record { value = x.value; end = x.end + 1 })) None
+abbrev pub marked : List ℕ → ℕ → Option Numeral → Option Numeral
+marked text mark (Some x) =
+    pick (ltb x.end (length text) && eqb (get_or text x.end 0) mark) (Some (record { value = x.value; end = x.end + 1 })) None
 marked text mark None = None
 
-unfoldable pub marked_at : List ℕ → ℕ → ℕ → ℕ → Decimal
+unfoldable pub marked_at : List ℕ → ℕ → ℕ → ℕ → Option Numeral
 marked_at text at most mark = marked text mark (decimal_at text at most)

@@ -5,22 +5,17 @@
 --   BeginsLine s x rest == the text s begins with that line of the settings x, three numbers below 1000, and `rest` follows
 --   line_at s at         == the settings line that begins at the cursor, whatever follows it, with the cursor past it; `line-at-exactly` of
 --                          Theorems: the line with which the text begins from there on, and None where it begins with none
---   parsed s            == what the text s is found to be; `parsed-exactly` of Theorems: the settings of which s is the line, and Malformed
+--   parsed s            == what the text s is found to be; `parsed-exactly` of Theorems: the settings of which s is the line, and None
 --                          where there are none such
 --   decisive            == 13: so many bytes of a text decide what it is, one more than the longest settings line has
 -- Assumes nothing.
-use Rattle.std.specs.Prelude.{◌≡◌, List, [], ◌∷◌, ◌++◌, ℕ, ◌<◌, eqb, length}
+use Rattle.std.specs.Prelude.{Option, Some, None, ◌≡◌, List, [], ◌∷◌, ◌++◌, ℕ, ◌<◌, eqb, length}
 use Rattle.basics.specs.Choice.{pick}
 use Rattle.text.specs.Text.{comma, line_feed, numeral}
 use Rattle.settings_line.specs.Decimal.{marked_at}
 use Rattle.settings_line.specs.declared.decimal.Numeral.{Numeral}
-use Rattle.settings_line.specs.declared.decimal.Decimal.{Decimal}
-use Rattle.settings_line.specs.declared.decimal.Decimal.TheVariants.{Number, None}
 use Rattle.settings_line.specs.declared.Settings.{Settings}
-use Rattle.settings_line.specs.declared.Found.{Found}
-use Rattle.settings_line.specs.declared.Found.TheVariants.{Line as line, None as nothing}
-use Rattle.settings_line.specs.declared.Parsed.{Parsed}
-use Rattle.settings_line.specs.declared.Parsed.TheVariants.{Settings as settings, Malformed}
+use Rattle.settings_line.specs.declared.Line.{Line}
 
 abbrev pub decisive : ℕ
 decisive = 13
@@ -41,24 +36,20 @@ pub record BeginsLine (s : List ℕ) (x : Settings) (rest : List ℕ) : Type 0 w
   pub k-short : x.k < 1000
 
 -- what follows from a number that was read
-abbrev pub after : Decimal → (Numeral → Parsed) → Parsed
-after (Number x) next = next x
-after None next = Malformed
+abbrev pub next : {A : Type 0} → Option Numeral → (Numeral → Option A) → Option A
+next (Some x) more = more x
+next None more = None
 
-abbrev pub next : Decimal → (Numeral → Found) → Found
-next (Number x) more = more x
-next None more = nothing
-
-unfoldable pub line_at : List ℕ → ℕ → Found
+unfoldable pub line_at : List ℕ → ℕ → Option Line
 line_at s at =
     next (marked_at s at 3 comma)
     (λ q. next (marked_at s q.end 3 comma)
     (λ n. next (marked_at s n.end 3 line_feed)
-    (λ k. line (record { settings = record { q = q.value; n = n.value; k = k.value }; end = k.end }))))
+    (λ k. Some (record { settings = record { q = q.value; n = n.value; k = k.value }; end = k.end }))))
 
-unfoldable pub parsed : List ℕ → Parsed
+unfoldable pub parsed : List ℕ → Option Settings
 parsed s =
-    after (marked_at s 0 3 comma)
-    (λ q. after (marked_at s q.end 3 comma)
-    (λ n. after (marked_at s n.end 3 line_feed)
-    (λ k. pick (eqb k.end (length s)) (settings (record { q = q.value; n = n.value; k = k.value })) Malformed)))
+    next (marked_at s 0 3 comma)
+    (λ q. next (marked_at s q.end 3 comma)
+    (λ n. next (marked_at s n.end 3 line_feed)
+    (λ k. pick (eqb k.end (length s)) (Some (record { q = q.value; n = n.value; k = k.value })) None)))

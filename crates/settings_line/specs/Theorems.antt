@@ -4,12 +4,12 @@
 --                          line; and nothing is found exactly when it begins with no such line
 --   line-at-exactly     == it holds of every text and every cursor
 --   ParsedExactly s     == the text s is found to be the settings x exactly when it is the line of x, three numbers below 1000, and
---                          Malformed exactly when it is no such line
+--                          None exactly when it is no such line
 --   parsed-exactly      == it holds of every text
 --   settings-line-short == a settings line has at most 12 bytes
 --   parsed-bounded      == the first 13 bytes of a text decide what it is
 -- Assumes nothing.
-use Rattle.std.specs.Prelude.{◌≡◌, refl, Bool, true, false, List, [], ◌++◌, ℕ, ◌+◌, ◌≤◌, ◌<◌, eqb, length, take, drop}
+use Rattle.std.specs.Prelude.{Option, Some, None, ◌≡◌, refl, Bool, true, false, List, [], ◌++◌, ℕ, ◌+◌, ◌≤◌, ◌<◌, eqb, length, take, drop}
 use Rattle.std.proofs.Common.{ap, ◌∙◌, sym, ⊎_elim, append-nil, zero-add, arith, eq-eqb, eqb-true, length-append, take_all, length-take-le}
 use Rattle.std.proofs.Math.Seq.{drop-length}
 use Rattle.basics.specs.Choice.{pick}
@@ -21,22 +21,18 @@ use Rattle.settings_line.specs.Laws.Parse.{whole, parsed-line}
 use Rattle.settings_line.specs.Laws.LineAt.{found-begins, begins-found}
 use Rattle.settings_line.specs.declared.Settings.{Settings}
 use Rattle.settings_line.specs.declared.Line.{Line}
-use Rattle.settings_line.specs.declared.Found.{Found}
-use Rattle.settings_line.specs.declared.Found.TheVariants.{Line as line, None as nothing}
-use Rattle.settings_line.specs.declared.Parsed.{Parsed}
-use Rattle.settings_line.specs.declared.Parsed.TheVariants.{Settings as settings, Malformed}
 
 -- what is found at the start of the text is the settings, where it ends the text
-settings-are : (s : List ℕ) (x : Settings) → parsed s ≡ settings x → IsSettingsLine s x
+settings-are : (s : List ℕ) (x : Settings) → parsed s ≡ Some x → IsSettingsLine s x
 settings-are s x e = cases (line_at s 0) refl (sym (parsed-line s) ∙ e)
   where
-    at-end : (b : Bool) (y : Settings) → pick b (settings y) Malformed ≡ settings x → (b ≡ true) × (x ≡ y)
+    at-end : (b : Bool) (y : Settings) → pick b (Some y) None ≡ Some x → (b ≡ true) × (x ≡ y)
     at-end true y e = (refl, cc)
     at-end false y e = let z : ◌≡◌ {A = ℕ} 0 1 = cc in absurd (omega arith)
 
-    cases : (f : Found) → line_at s 0 ≡ f → whole (length s) f ≡ settings x → IsSettingsLine s x
-    cases nothing f e = let z : ◌≡◌ {A = ℕ} 0 1 = cc in absurd (omega arith)
-    cases (line l) f e =
+    cases : (f : Option Line) → line_at s 0 ≡ f → whole (length s) f ≡ Some x → IsSettingsLine s x
+    cases None f e = let z : ◌≡◌ {A = ℕ} 0 1 = cc in absurd (omega arith)
+    cases (Some l) f e =
         let end = at-end (eqb l.end (length s)) l.settings e in
         let b = (found-begins s 0 l f).0 in
         let none : drop l.end s ≡ [] = ap (λ i. drop i s) (eqb-true l.end (length s) end.0) ∙ drop-length s in
@@ -48,21 +44,21 @@ settings-are s x e = cases (line_at s 0) refl (sym (parsed-line s) ∙ e)
           k-short = b.k-short;
         })
 
-line-parsed : (s : List ℕ) (x : Settings) → IsSettingsLine s x → parsed s ≡ settings x
+line-parsed : (s : List ℕ) (x : Settings) → IsSettingsLine s x → parsed s ≡ Some x
 line-parsed s x l =
     let b : BeginsLine (drop 0 s) x [] =
     record { line = l.line ∙ sym (append-nil _); q-short = l.q-short; n-short = l.n-short; k-short = l.k-short } in
     let end : 0 + length (settings_line x.q x.n x.k) ≡ length s = zero-add _ ∙ ap length (sym l.line) in
     parsed-line s ∙ ap (whole (length s)) (begins-found s 0 x [] b) ∙ rw (eq-eqb _ (length s) end)
 
-never_both : (s : List ℕ) (x : Settings) → parsed s ≡ settings x → parsed s ≡ Malformed → ⊥
+never_both : (s : List ℕ) (x : Settings) → parsed s ≡ Some x → parsed s ≡ None → ⊥
 never_both s x e f = let z : ◌≡◌ {A = ℕ} 0 1 = cc in omega arith
 
 pub record ParsedExactly (s : List ℕ) : Type 0 where
-  pub found-is-line : (x : Settings) → parsed s ≡ settings x → IsSettingsLine s x
-  pub line-is-found : (x : Settings) → IsSettingsLine s x → parsed s ≡ settings x
-  pub malformed-is-none : parsed s ≡ Malformed → (x : Settings) → IsSettingsLine s x → ⊥
-  pub none-is-malformed : ((x : Settings) → IsSettingsLine s x → ⊥) → parsed s ≡ Malformed
+  pub found-is-line : (x : Settings) → parsed s ≡ Some x → IsSettingsLine s x
+  pub line-is-found : (x : Settings) → IsSettingsLine s x → parsed s ≡ Some x
+  pub malformed-is-none : parsed s ≡ None → (x : Settings) → IsSettingsLine s x → ⊥
+  pub none-is-malformed : ((x : Settings) → IsSettingsLine s x → ⊥) → parsed s ≡ None
 
 pub parsed-exactly : (s : List ℕ) → ParsedExactly s
 parsed-exactly s =
@@ -73,17 +69,17 @@ parsed-exactly s =
       none-is-malformed = λ h. cases (parsed s) refl h;
     }
   where
-    cases : (p : Parsed) → parsed s ≡ p → ((x : Settings) → IsSettingsLine s x → ⊥) → parsed s ≡ Malformed
-    cases (settings x) e h = absurd (h x (settings-are s x e))
-    cases Malformed e h = e
+    cases : (p : Option Settings) → parsed s ≡ p → ((x : Settings) → IsSettingsLine s x → ⊥) → parsed s ≡ None
+    cases (Some x) e h = absurd (h x (settings-are s x e))
+    cases None e h = e
 
 pub record LineAtExactly (s : List ℕ) (at : ℕ) : Type 0 where
-  pub found-is-line : (x : Settings) (end : ℕ) → line_at s at ≡ line (record { settings = x; end = end })
+  pub found-is-line : (x : Settings) (end : ℕ) → line_at s at ≡ Some (record { settings = x; end = end })
       → BeginsLine (drop at s) x (drop end s) × (end ≡ at + length (settings_line x.q x.n x.k))
   pub line-is-found : (x : Settings) (rest : List ℕ) → BeginsLine (drop at s) x rest
-      → line_at s at ≡ line (record { settings = x; end = at + length (settings_line x.q x.n x.k) })
-  pub nothing-is-none : line_at s at ≡ nothing → (x : Settings) (rest : List ℕ) → BeginsLine (drop at s) x rest → ⊥
-  pub none-is-nothing : ((x : Settings) (rest : List ℕ) → BeginsLine (drop at s) x rest → ⊥) → line_at s at ≡ nothing
+      → line_at s at ≡ Some (record { settings = x; end = at + length (settings_line x.q x.n x.k) })
+  pub nothing-is-none : line_at s at ≡ None → (x : Settings) (rest : List ℕ) → BeginsLine (drop at s) x rest → ⊥
+  pub none-is-nothing : ((x : Settings) (rest : List ℕ) → BeginsLine (drop at s) x rest → ⊥) → line_at s at ≡ None
 
 pub line-at-exactly : (s : List ℕ) (at : ℕ) → LineAtExactly s at
 line-at-exactly s at =
@@ -94,12 +90,12 @@ line-at-exactly s at =
       none-is-nothing = λ h. cases (line_at s at) refl h;
     }
   where
-    not-both : (l : Line) → line_at s at ≡ line l → line_at s at ≡ nothing → ⊥
+    not-both : (l : Line) → line_at s at ≡ Some l → line_at s at ≡ None → ⊥
     not-both l e f = let z : ◌≡◌ {A = ℕ} 0 1 = cc in omega arith
 
-    cases : (f : Found) → line_at s at ≡ f → ((x : Settings) (rest : List ℕ) → BeginsLine (drop at s) x rest → ⊥) → line_at s at ≡ nothing
-    cases (line l) e h = absurd (h l.settings (drop l.end s) (found-begins s at l e).0)
-    cases nothing e h = e
+    cases : (f : Option Line) → line_at s at ≡ f → ((x : Settings) (rest : List ℕ) → BeginsLine (drop at s) x rest → ⊥) → line_at s at ≡ None
+    cases (Some l) e h = absurd (h l.settings (drop l.end s) (found-begins s at l e).0)
+    cases None e h = e
 
 pub settings-line-short : (q n k : ℕ) → q < 1000 → n < 1000 → k < 1000 → length (settings_line q n k) ≤ 12
 unfolding settings_line
@@ -112,7 +108,7 @@ settings-line-short q n k h i j =
 line-short : (s : List ℕ) (x : Settings) → IsSettingsLine s x → length s ≤ 12
 line-short s x l = rw l.line (settings-line-short x.q x.n x.k l.q-short l.n-short l.k-short)
 
--- a text of more than 12 bytes is Malformed, and so are its first 13
+-- a text of more than 12 bytes is no line, and so are its first 13
 pub parsed-bounded : (s : List ℕ) → parsed (take decisive s) ≡ parsed s
 parsed-bounded s =
     ⊎_elim (λ short. ap parsed (take_all decisive s short)) (λ long. none (take decisive s) (front long) ∙ sym (none s (omega arith)))
@@ -121,5 +117,5 @@ parsed-bounded s =
     front : decisive < length s → 12 < length (take decisive s)
     front long = omega (arith, length-take-le decisive s (omega arith))
 
-    none : (t : List ℕ) → 12 < length t → parsed t ≡ Malformed
+    none : (t : List ℕ) → 12 < length t → parsed t ≡ None
     none t long = (parsed-exactly t).none-is-malformed (λ x l. omega (arith, line-short t x l))

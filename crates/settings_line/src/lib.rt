@@ -6,8 +6,6 @@ pub mod decimal;
 ghost use Rattle.std.specs.Prelude.{◌≡◌};
 ghost use Rattle.settings_line.specs.SettingsLine.{line_at, parsed};
 
-use decimal::Decimal;
-
 // Document 01: "three decimal numbers of 1 to 3 digits".
 const MOST_DIGITS: usize = 3;
 
@@ -15,51 +13,29 @@ const MOST_DIGITS: usize = 3;
 pub const DECISIVE: usize = 13;
 
 // The settings, as they were read.
-#[derive(Drop)]
+#[derive(Clone, Copy)]
 pub struct Settings {
     pub q: u64,
     pub n: u64,
     pub k: u64,
 }
 
-// What a text is found to be.
-#[derive(Drop)]
-pub enum Parsed {
-    Settings(Settings),
-    Malformed,
-}
-
 // A settings line that was read, and the cursor past it.
-#[derive(Drop)]
+#[derive(Clone, Copy)]
 pub struct Line {
     pub settings: Settings,
     pub end: usize,
 }
 
-// What stands at a cursor.
-#[derive(Drop)]
-pub enum Found {
-    Line(Line),
-    None,
-}
-
 // The settings line that begins at the cursor, whatever follows it.
-pub fn read_line(text: &[u8], at: usize) -> Found
+#[tactic(auto, unfolding(crate::specs::SettingsLine::line_at))]
+pub fn read_line(text: &[u8], at: usize) -> Option<Line>
     ensures { result ≡ line_at text.now at }
 {
-    let first = decimal::read_marked(text, at, MOST_DIGITS, b',');
-    let Decimal::Number(q) = first else {
-        return Found::None;
-    };
-    let second = decimal::read_marked(text, q.end, MOST_DIGITS, b',');
-    let Decimal::Number(n) = second else {
-        return Found::None;
-    };
-    let third = decimal::read_marked(text, n.end, MOST_DIGITS, b'\n');
-    let Decimal::Number(k) = third else {
-        return Found::None;
-    };
-    Found::Line(Line {
+    let q = decimal::read_marked(text, at, MOST_DIGITS, b',')?;
+    let n = decimal::read_marked(text, q.end, MOST_DIGITS, b',')?;
+    let k = decimal::read_marked(text, n.end, MOST_DIGITS, b'\n')?;
+    Some(Line {
         settings: Settings {
             q: q.value,
             n: n.value,
@@ -70,16 +46,13 @@ pub fn read_line(text: &[u8], at: usize) -> Found
 }
 
 // The settings of a text that is exactly one settings line.
-pub fn parse(text: &[u8]) -> Parsed
+#[tactic(auto, unfolding(crate::specs::SettingsLine::line_at, crate::specs::SettingsLine::parsed))]
+pub fn parse(text: &[u8]) -> Option<Settings>
     ensures { result ≡ parsed text.now }
 {
-    let found = read_line(text, 0);
-    let Found::Line(line) = found else {
-        return Parsed::Malformed;
-    };
+    let line = read_line(text, 0)?;
     if line.end != text.len() {
-        return Parsed::Malformed;
+        return None;
     }
-    let settings = line.settings;
-    Parsed::Settings(settings)
+    Some(line.settings)
 }

@@ -1,5 +1,4 @@
 -- text: decimal numerals, and pieces of text put one after the other into a lent buffer.
 pub mod Text
-pub mod Word
 pub mod Piece
 pub mod Laws

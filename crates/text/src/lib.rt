@@ -1,5 +1,4 @@
-// Text as bytes: decimal numerals and words, put into a lent buffer.
+// Text as bytes: decimal numerals and other pieces, put into a lent buffer.
 #![tactic(auto)]
 
 pub mod append;
-pub mod word;

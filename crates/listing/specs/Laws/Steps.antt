@@ -1,5 +1,6 @@
 -- Laws of the steps; no part of the meaning.
 --   begun-malformed, -refused, -header == the state in which the program begins, by what its input is found to be
+--   listing-known   == what refuses a listing is a refusal's number
 --   live-is, is_live, refused-dead, past-dead  == when lines are left
 --   end_short, end-long, end-within == up to which index the next chunk lists
 --   remaining-from   == where the settings are not refused, the lines from the index on are left
@@ -7,18 +8,21 @@
 --   dead-step, live-step == what it answers and leaves
 --   after_none, after-further == the state after no step, and after one step more
 -- Assumes nothing.
-use Rattle.std.specs.Prelude.{◌≡◌, refl, List, [], ℕ, zero, suc, ◌+◌, ◌-◌, ◌≤◌, ◌<◌, eqb, ltb, length}
+use Rattle.std.specs.Prelude.{Some, None, ◌≡◌, refl, List, [], ℕ, zero, suc, ◌+◌, ◌-◌, ◌≤◌, ◌<◌, eqb, ltb, length}
 use Rattle.std.proofs.Math.Path.{ap}
 use Rattle.std.proofs.Common.{◌∙◌, sym, ⊎_elim, add-one, arith, eq-eqb, ne_eqb, eqb-true, ltb-true, lt-ltb, le-ltb}
 use Rattle.std.proofs.Math.Bool.{true, false, and-false, and-eq-true_iff}
 use Rattle.basics.specs.Laws.Order.{le-or-lt}
-use Rattle.refusal.specs.Refusal.{line_refusal}
-use Rattle.counts.specs.Gaussian.{gaussian}
+use Rattle.refusal.specs.Refusal.{number, named}
+use Rattle.refusal.specs.Laws.First.{Known, known-none, known-test, known-first, number-positive, named-number}
+use Rattle.refusal.specs.declared.Refusal.{Refusal}
+use Rattle.refusal.specs.declared.Refusal.TheVariants as refusals
 use Rattle.settings.specs.Settings.{list_refusal}
+use Rattle.settings.specs.Laws.Accepted.{settings-known}
 use Rattle.settings_line.specs.SettingsLine.{parsed}
 use Rattle.settings_line.specs.declared.Settings.{Settings}
-use Rattle.settings_line.specs.declared.Parsed.TheVariants.{Settings as settings, Malformed}
 use Rattle.listing.specs.Listing.{lines_from}
+use Rattle.listing.specs.Steps.{refusal_of, count_of, lines_of}
 use Rattle.listing.specs.Steps.{chunk_lines, live, lines_end, progress_to, remaining_lines, begun_for, begun, lines_chunk, lines_next}
 use Rattle.listing.specs.Steps.{next_state}
 use Rattle.listing.specs.Steps.{state_after}
@@ -26,12 +30,6 @@ use Rattle.listing.specs.Front.{written}
 use Rattle.listing.specs.declared.Progress.{Progress}
 use Rattle.listing.specs.declared.State.{State}
 use Rattle.listing.specs.declared.State.TheVariants.{Header, Lines, Refused, Done}
-
-abbrev pub count_of : Progress → ℕ
-count_of p = gaussian p.q p.n p.k
-
-abbrev pub refusal_of : Progress → ℕ
-refusal_of p = list_refusal p.q p.n p.k
 
 pub live-is : (p : Progress) → live p ≡ true → (refusal_of p ≡ 0) × (p.index.0 < count_of p)
 unfolding live
@@ -67,7 +65,7 @@ end-within count i h =
     ⊎_elim (λ long. rw (end-long count i long) (omega arith, omega arith, omega arith, omega arith))
     (λ short. rw (end_short count i short) (h, omega arith, omega arith, omega arith)) (le-or-lt chunk_lines (count - i))
 
-pub remaining-live : (p : Progress) → live p ≡ true → remaining_lines p ≡ lines_from p.q p.n p.k p.index.0
+pub remaining-live : (p : Progress) → live p ≡ true → remaining_lines p ≡ lines_of p p.index.0
     (count_of p - p.index.0)
 unfolding remaining_lines
 remaining-live p e = rw (e, remaining_lines)
@@ -77,37 +75,44 @@ unfolding remaining_lines
 remaining-dead p e = rw (e, remaining_lines)
 
 -- where the settings are not refused, the lines from the index on are left, none past the count
-pub remaining-from : (p : Progress) → refusal_of p ≡ 0 → remaining_lines p ≡ lines_from p.q p.n p.k p.index.0
+pub remaining-from : (p : Progress) → refusal_of p ≡ 0 → remaining_lines p ≡ lines_of p p.index.0
     (count_of p - p.index.0)
 unfolding lines_from
 remaining-from p r =
     ⊎_elim
     (λ past.
     let none : count_of p - p.index.0 ≡ 0 = omega arith in
-    remaining-dead p (past-dead p past) ∙ sym (ap (lines_from p.q p.n p.k p.index.0) none))
+    remaining-dead p (past-dead p past) ∙ sym (ap (lines_of p p.index.0) none))
     (λ within. remaining-live p (is_live p r within)) (le-or-lt (count_of p) p.index.0)
 
-pub begun-malformed : (input : List ℕ) → parsed input ≡ Malformed → begun input ≡ Refused line_refusal
+pub begun-malformed : (input : List ℕ) → parsed input ≡ None → begun input ≡ Refused refusals.Line
 unfolding begun
 begun-malformed input e = ap begun_for e
 
-module _ (input : List ℕ) (x : Settings) (e : parsed input ≡ settings x) where
-  pub begun-refused : (list_refusal x.q x.n x.k ≡ 0 → ⊥) → begun input ≡ Refused (list_refusal x.q x.n x.k)
+module _ (input : List ℕ) (x : Settings) (e : parsed input ≡ Some x) where
+  pub begun-refused : (refusal : Refusal) → number refusal ≡ list_refusal x.q x.n x.k → begun input ≡ Refused refusal
   unfolding begun
-  begun-refused r =
+  begun-refused refusal r =
       ap begun_for e
-      ∙ ap (λ b. elim b [ true ↦ Header x | false ↦ Refused (list_refusal x.q x.n x.k) ])
-      (ne_eqb (list_refusal x.q x.n x.k) 0 r)
+      ∙ ap (λ b. elim b [ true ↦ Header x | false ↦ Refused (named (list_refusal x.q x.n x.k)) ])
+      (ne_eqb (list_refusal x.q x.n x.k) 0 (λ z. number-positive refusal (r ∙ z)))
+      ∙ ap (λ n. Refused (named n)) (sym r) ∙ ap Refused (named-number refusal)
 
   pub begun-header : list_refusal x.q x.n x.k ≡ 0 → begun input ≡ Header x
   unfolding begun
   begun-header r =
       ap begun_for e
-      ∙ ap (λ b. elim b [ true ↦ Header x | false ↦ Refused (list_refusal x.q x.n x.k) ])
+      ∙ ap (λ b. elim b [ true ↦ Header x | false ↦ Refused (named (list_refusal x.q x.n x.k)) ])
       (eq-eqb (list_refusal x.q x.n x.k) 0 r)
 
+-- what refuses a listing is a refusal's number
+pub listing-known : (q n k : ℕ) → Known (list_refusal q n k)
+unfolding list_refusal
+listing-known q n k =
+    known-first _ _ (settings-known q n k) (known-first _ _ (known-test _ refusals.Listing) known-none)
+
 pub chunk-live : (p : Progress) → live p ≡ true
-    → lines_chunk p ≡ lines_from p.q p.n p.k p.index.0 (lines_end (count_of p) p.index.0 - p.index.0)
+    → lines_chunk p ≡ lines_of p p.index.0 (lines_end (count_of p) p.index.0 - p.index.0)
 unfolding lines_chunk
 chunk-live p e = rw (e, lines_chunk)
 
@@ -128,12 +133,12 @@ pub dead-step : (p : Progress) (chunk : List ℕ) → live p ≡ false
 dead-step p chunk e = (sym (next-dead p e), sym (ap length (chunk-dead p e)), ap (λ t. written t chunk) (sym (chunk-dead p e)))
 
 pub live-step : (p : Progress) (chunk : List ℕ) (to size : ℕ) (after : List ℕ) → live p ≡ true → to ≡ lines_end (count_of p) p.index.0
-    → size ≡ length (lines_from p.q p.n p.k p.index.0 (to - p.index.0))
-    → after ≡ written (lines_from p.q p.n p.k p.index.0 (to - p.index.0)) chunk
+    → size ≡ length (lines_of p p.index.0 (to - p.index.0))
+    → after ≡ written (lines_of p p.index.0 (to - p.index.0)) chunk
     → (Lines (progress_to p to) ≡ lines_next p) × (size ≡ length (lines_chunk p)) × (after ≡ written (lines_chunk p) chunk)
 live-step p chunk to size after e t s a =
-    let lines : lines_from p.q p.n p.k p.index.0 (to - p.index.0) ≡ lines_chunk p =
-    ap (λ u. lines_from p.q p.n p.k p.index.0 (u - p.index.0)) t ∙ sym (chunk-live p e) in
+    let lines : lines_of p p.index.0 (to - p.index.0) ≡ lines_chunk p =
+    ap (λ u. lines_of p p.index.0 (u - p.index.0)) t ∙ sym (chunk-live p e) in
     (ap (λ u. Lines (progress_to p u)) t ∙ sym (next-live p e), s ∙ ap length lines, a ∙ ap (λ u. written u chunk) lines)
 
 pub after_none : (s : State) → s ≡ state_after 0 s

@@ -2,7 +2,7 @@
 --   found-begins == the line that is found stands there, and the cursor past it is where the rest begins
 --   begins-found == a line that stands there is found
 -- Assumes nothing.
-use Rattle.std.specs.Prelude.{◌≡◌, List, [], ◌∷◌, ◌++◌, ℕ, ◌+◌, ◌-◌, ◌≤◌}
+use Rattle.std.specs.Prelude.{Option, Some, None, ◌≡◌, List, [], ◌∷◌, ◌++◌, ℕ, ◌+◌, ◌-◌, ◌≤◌}
 use Rattle.std.proofs.Math.Path.{refl, ap, sym}
 use Rattle.std.proofs.Common.{◌∙◌, append_assoc, arith, length-drop}
 use Rattle.std.proofs.Math.ListN.{length, drop, length-append}
@@ -12,24 +12,20 @@ use Rattle.settings_line.specs.SettingsLine.{settings_line, BeginsLine, next, li
 use Rattle.settings_line.specs.Laws.Marked.{marked-is, marked-reads}
 use Rattle.settings_line.specs.Laws.Parse.{line-whole}
 use Rattle.settings_line.specs.declared.decimal.Numeral.{Numeral}
-use Rattle.settings_line.specs.declared.decimal.Decimal.{Decimal}
-use Rattle.settings_line.specs.declared.decimal.Decimal.TheVariants.{Number, None}
 use Rattle.settings_line.specs.declared.Settings.{Settings}
 use Rattle.settings_line.specs.declared.Line.{Line}
-use Rattle.settings_line.specs.declared.Found.{Found}
-use Rattle.settings_line.specs.declared.Found.TheVariants.{Line as line}
 
 -- what was read before a line was found
-record Before (d : Decimal) (more : Numeral → Found) (l : Line) : Type 0 where
+record Before (d : Option Numeral) (more : Numeral → Option Line) (l : Line) : Type 0 where
   number : Numeral
-  read : d ≡ Number number
-  rest : more number ≡ line l
+  read : d ≡ Some number
+  rest : more number ≡ Some l
 
-before : (d : Decimal) (more : Numeral → Found) (l : Line) → next d more ≡ line l → Before d more l
-before (Number y) more l e = record { number = y; read = refl; rest = e }
+before : (d : Option Numeral) (more : Numeral → Option Line) (l : Line) → next d more ≡ Some l → Before d more l
+before (Some y) more l e = record { number = y; read = refl; rest = e }
 before None more l e = let z : ◌≡◌ {A = ℕ} 0 1 = cc in absurd (omega arith)
 
-same : (l m : Line) → line l ≡ line m → l ≡ m
+same : (l m : Line) → Some l ≡ Some m → l ≡ m
 same l m e = cc
 
 -- the line, number by number, and what follows it
@@ -48,7 +44,7 @@ unfolding settings_line
 line-nonempty q n k = simp length-append (omega arith)
 
 module _ (s : List ℕ) (at : ℕ) where
-  found-line : (l : Line) → line_at s at ≡ line l → BeginsLine (drop at s) l.settings (drop l.end s)
+  found-line : (l : Line) → line_at s at ≡ Some l → BeginsLine (drop at s) l.settings (drop l.end s)
   unfolding line_at
   found-line l e =
       let q = before (marked_at s at 3 comma) _ l e in
@@ -70,7 +66,7 @@ module _ (s : List ℕ) (at : ℕ) where
       })
 
   pub begins-found : (x : Settings) (rest : List ℕ) → BeginsLine (drop at s) x rest
-      → line_at s at ≡ line (record { settings = x; end = at + length (settings_line x.q x.n x.k) })
+      → line_at s at ≡ Some (record { settings = x; end = at + length (settings_line x.q x.n x.k) })
   unfolding is_digit
   begins-found x rest b =
       let third = numeral x.k ++ (line_feed ∷ rest) in
@@ -80,7 +76,7 @@ module _ (s : List ℕ) (at : ℕ) where
       let n = marked-reads s q.end 2 comma x.n third refl q.ahead b.n-short (omega (arith, b.n-short)) in
       let k = marked-reads s n.end 2 line_feed x.k rest refl n.ahead b.k-short (omega (arith, b.k-short)) in
       line-whole s at _ q.read _ n.read _ k.read
-      ∙ ap (λ e. line (record { settings = x; end = e })) (behind k.end k.ahead k.within b.line)
+      ∙ ap (λ e. Some (record { settings = x; end = e })) (behind k.end k.ahead k.within b.line)
     where
       behind : (end : ℕ) → drop end s ≡ rest → end ≤ length s → drop at s ≡ settings_line x.q x.n x.k ++ rest
           → end ≡ at + length (settings_line x.q x.n x.k)
@@ -90,7 +86,7 @@ module _ (s : List ℕ) (at : ℕ) where
           let left : length s - end ≡ length rest = sym (length-drop end s) ∙ ap length e in
           omega (arith, line-nonempty x.q x.n x.k)
 
-  pub found-begins : (l : Line) → line_at s at ≡ line l
+  pub found-begins : (l : Line) → line_at s at ≡ Some l
       → BeginsLine (drop at s) l.settings (drop l.end s)
       × (l.end ≡ at + length (settings_line l.settings.q l.settings.n l.settings.k))
   found-begins l e =

@@ -3,7 +3,7 @@
 --   marked-is   == the same, with the byte `mark` behind it
 --   marked-reads == such a numeral, with a `mark` behind it that is no digit, is read
 -- Assumes nothing.
-use Rattle.std.specs.Prelude.{◌≡◌, refl, Bool, true, false, ◌&&◌, List, ◌∷◌, ◌++◌, ℕ, suc, ◌+◌, ◌-◌, ◌^◌, ◌≤◌, ◌<◌, leb, ltb, eqb, length, get_or, drop}
+use Rattle.std.specs.Prelude.{Option, Some, None, ◌≡◌, refl, Bool, true, false, ◌&&◌, List, ◌∷◌, ◌++◌, ℕ, suc, ◌+◌, ◌-◌, ◌^◌, ◌≤◌, ◌<◌, leb, ltb, eqb, length, get_or, drop}
 use Rattle.std.proofs.Common.{ap, ap₂, ◌∙◌, sym, lt_of_lt_of_le, add-one, arith, le-leb, ltb-true, eqb-true, length-append, length-drop, drop-drop, drop-cons, get_or-drop}
 use Rattle.std.proofs.Math.Bool.{and-eq-true_iff}
 use Rattle.std.proofs.Math.Nat.{pow-le-pow_right}
@@ -14,11 +14,9 @@ use Rattle.settings_line.specs.Decimal.{is_digit, digit_run, reading, is_numeral
 use Rattle.settings_line.specs.Laws.Numeral.{numeral-digits, numeral-reading, reading-numeral, reading-below}
 use Rattle.settings_line.specs.Laws.Decimal.{read_number, marked-read}
 use Rattle.settings_line.specs.declared.decimal.Numeral.{Numeral}
-use Rattle.settings_line.specs.declared.decimal.Decimal.{Decimal}
-use Rattle.settings_line.specs.declared.decimal.Decimal.TheVariants.{Number, None}
 use Rattle.settings_line.specs.Laws.Run.{run-digits, run-split, run_of, numerals, numeral-is}
 
-pub decimal-is : (text : List ℕ) (at most : ℕ) (x : Numeral) → decimal_at text at most ≡ Number x
+pub decimal-is : (text : List ℕ) (at most : ℕ) (x : Numeral) → decimal_at text at most ≡ Some x
     → (drop at text ≡ numeral x.value ++ drop x.end text) × (x.value < 10 ^ most)
 unfolding decimal_at
 decimal-is text at most x e =
@@ -33,19 +31,19 @@ decimal-is text at most x e =
       rw value (lt_of_lt_of_le (reading-below (run-digits (drop at text))) (pow-le-pow_right (omega arith) f.short)),
     )
 
-record Behind (text : List ℕ) (mark : ℕ) (d : Decimal) (x : Numeral) : Type 0 where
+record Behind (text : List ℕ) (mark : ℕ) (d : Option Numeral) (x : Numeral) : Type 0 where
   number : Numeral
-  read : d ≡ Number number
+  read : d ≡ Some number
   inside : number.end < length text
   follows : get_or text number.end 0 ≡ mark
   same : x ≡ record { value = number.value; end = number.end + 1 }
 
-behind : (text : List ℕ) (mark : ℕ) (d : Decimal) (x : Numeral) → marked text mark d ≡ Number x → Behind text mark d x
+behind : (text : List ℕ) (mark : ℕ) (d : Option Numeral) (x : Numeral) → marked text mark d ≡ Some x → Behind text mark d x
 behind text mark None x e = let z : ◌≡◌ {A = ℕ} 0 1 = cc in absurd (omega arith)
-behind text mark (Number y) x e = cases (ltb y.end (length text)) (eqb (get_or text y.end 0) mark) refl refl e
+behind text mark (Some y) x e = cases (ltb y.end (length text)) (eqb (get_or text y.end 0) mark) refl refl e
   where
     cases : (a b : Bool) → ltb y.end (length text) ≡ a → eqb (get_or text y.end 0) mark ≡ b
-        → pick (a && b) (Number (record { value = y.value; end = y.end + 1 })) None ≡ Number x → Behind text mark (Number y) x
+        → pick (a && b) (Some (record { value = y.value; end = y.end + 1 })) None ≡ Some x → Behind text mark (Some y) x
     cases true true l f e =
         record {
           number = y;
@@ -57,7 +55,7 @@ behind text mark (Number y) x e = cases (ltb y.end (length text)) (eqb (get_or t
     cases true false l f e = let z : ◌≡◌ {A = ℕ} 0 1 = cc in absurd (omega arith)
     cases false b l f e = let z : ◌≡◌ {A = ℕ} 0 1 = cc in absurd (omega arith)
 
-pub marked-is : (text : List ℕ) (at most mark : ℕ) (x : Numeral) → marked_at text at most mark ≡ Number x
+pub marked-is : (text : List ℕ) (at most mark : ℕ) (x : Numeral) → marked_at text at most mark ≡ Some x
     → (drop at text ≡ numeral x.value ++ (mark ∷ drop x.end text)) × (x.value < 10 ^ most)
 unfolding marked_at
 marked-is text at most mark x e =
@@ -73,7 +71,7 @@ marked-is text at most mark x e =
 
 pub record Reads (text : List ℕ) (at most mark v : ℕ) (rest : List ℕ) : Type 0 where
   pub end : ℕ
-  pub read : marked_at text at most mark ≡ Number (record { value = v; end = end })
+  pub read : marked_at text at most mark ≡ Some (record { value = v; end = end })
   pub ahead : drop end text ≡ rest
   pub within : end ≤ length text
 
@@ -87,8 +85,8 @@ marked-reads text at m mark v rest other e short small =
     let end = at + length (numeral v) in
     let test : leb (reading 0 s) greatest && is_numeral (suc m) s ≡ true =
     ap₂ ◌&&◌ (ap (λ r. leb r greatest) value ∙ le-leb v greatest small) (ap (is_numeral (suc m)) digits ∙ numeral-is m v short) in
-    let read : decimal_at text at (suc m) ≡ Number (record { value = v; end = end }) =
-    ap (λ b. read_if b at s) test ∙ ap₂ (λ r d. Number (record { value = r; end = at + length d })) value digits in
+    let read : decimal_at text at (suc m) ≡ Some (record { value = v; end = end }) =
+    ap (λ b. read_if b at s) test ∙ ap₂ (λ r d. Some (record { value = r; end = at + length d })) value digits in
     let sizes : length text - at ≡ length (numeral v) + suc (length rest) =
     sym (length-drop at text) ∙ ap length e ∙ length-append (numeral v) (mark ∷ rest) in
     let inside : end < length text = omega arith in

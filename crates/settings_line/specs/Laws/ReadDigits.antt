@@ -1,12 +1,14 @@
 -- What the loop that reads digits keeps; no part of the meaning.
 --   run_end, -stop, -digit == the digits at a cursor: past the text's end, at a byte that is no digit, at a digit
 --   digit-bounds    == what the test for a digit tells
+--   digit-tested    == std's test for a digit is this one
 --   reading-grows   == more digits make no smaller number
 --   Running text at v i == the digits from `at` up to i make v, so that the digits from i on finish the number
 --   running-start, -more == it holds at the start and after one more digit
 --   running-done, -over  == what is read where no digit follows, and where the next makes the number too great
 -- Assumes nothing.
-use Rattle.std.specs.Prelude.{◌≡◌, refl, true, false, List, [], ◌∷◌, ℕ, suc, ◌+◌, ◌*◌, ◌-◌, ◌≤◌, ◌<◌, leb, get_or, drop}
+use Rattle.std.specs.Prelude.{Some, None, ◌≡◌, refl, true, false, List, [], ◌∷◌, ℕ, suc, ◌+◌, ◌*◌, ◌-◌, ◌≤◌, ◌<◌, leb, get_or, drop}
+use Rattle.std.specs.Char.{is_ascii_digit}
 use Rattle.std.proofs.Math.Path.{ap}
 use Rattle.std.proofs.Common.{◌∙◌, le_refl, le_trans, add-one, arith, leb→le, drop_of_length-le, drop-cons}
 use Rattle.std.proofs.Math.Nat.{add-zero}
@@ -15,13 +17,16 @@ use Rattle.std.proofs.Math.ListN.{length}
 use Rattle.basics.specs.Laws.Choice.{holds}
 use Rattle.basics.specs.Laws.Test.{and_left, and_right}
 use Rattle.settings_line.specs.Decimal.{is_digit, digit_run, reading, greatest, read_at}
-use Rattle.settings_line.specs.declared.decimal.Decimal.TheVariants.{Number, None}
 
 pub digit-bounds : (b : ℕ) → is_digit b ≡ true → (48 ≤ b) × (b ≤ 57)
 unfolding is_digit
 digit-bounds b e =
     let t = holds (is_digit b) e in
     (leb→le 48 b (and_left (leb 48 b) (leb b 57) t), leb→le b 57 (and_right (leb 48 b) (leb b 57) t))
+
+pub digit-tested : (b : ℕ) → is_ascii_digit b ≡ is_digit b
+unfolding is_digit
+digit-tested b = refl
 
 pub reading-grows : (v : ℕ) (s : List ℕ) → v ≤ reading v s
 unfolding reading
@@ -61,7 +66,7 @@ module _ (text : List ℕ) (at v i : ℕ) (r : Running text at v i) where
         small = s;
       }
 
-  pub running-done : digit_run (drop i text) ≡ [] → read_at text at ≡ Number (record { value = v; end = i })
+  pub running-done : digit_run (drop i text) ≡ [] → read_at text at ≡ Some (record { value = v; end = i })
   unfolding read_at reading
   running-done e =
       let value : reading 0 (digit_run (drop at text)) ≡ v = r.makes ∙ ap (reading v) e in

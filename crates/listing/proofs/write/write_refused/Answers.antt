@@ -1,10 +1,24 @@
--- The word that is spelled is the line's.
-use Rattle.std.proofs.Common.{ap}
+-- The word and the number are the line's, and have room in the 320 bytes that are lent.
+use Rattle.std.proofs.Common.{[], ◌∷◌, ◌++◌, ap, ◌∙◌, ◌≡◌, arith, length-take-le, length-append}
+use Rattle.refusal.specs.Refusal.{number}
+use Rattle.text.specs.Text.{comma, line_feed, numeral}
+use Rattle.text.specs.Laws.Numeral.{numeral-length}
+use Rattle.listing.specs.Line.{line_room}
 use Rattle.listing.specs.Listing.{refused_word, refused_line}
-use Rattle.listing.specs.Laws.Front.{same_line}
-use Rattle.listing.specs.Laws.Line.{word_line}
+use Rattle.listing.specs.Laws.Front.{composed-front}
 use Rattle.listing.proofs.write.write_refused.Goals as goal
 
 pub returns : goal.returns
 unfolding refused_word refused_line
-returns c = same_line _ (refused_line _) _ _ _ (ap word_line c.numbered.ensures) c.write_word.ensures
+returns c =
+    let r = number c.args.refusal in
+    let same : c.from.result ≡ r = c.from.ensures ∙ c.from-number.ensures in
+    composed-front c.args.buffer.now line_room ((refused_word ++ (comma ∷ [])) ∷ numeral c.from.result ∷ (line_feed ∷ []) ∷ [])
+    (refused_line r) _ _ (ap (λ n. refused_word ++ (comma ∷ (numeral n ++ (line_feed ∷ [])))) same)
+    (omega (
+      arith,
+      length-take-le line_room c.args.buffer.now c.requires,
+      length-append (numeral r) (line_feed ∷ []),
+      numeral-length 19 r (omega arith),
+    ))
+    c.put_numbered.ensures
