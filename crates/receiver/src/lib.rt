@@ -203,20 +203,13 @@ impl Receiver {
         ensures told { Told self.q self.n self.k t self.dimension (used self) (close_refusal self t) result }
     {
         let vector = self.formed().ok_or(Refusal::Receiver)?;
-        let numbering = Numbering::try_from(t)?;
+        Numbering::try_from(t)?;
         let size = (self.dimension * self.n) as usize;
         let space = Space {
             dimension: self.dimension,
             vector,
         };
-        receive::space_answer(
-            self.q,
-            self.n,
-            self.k,
-            numbering,
-            space,
-            &self.entries[..size],
-        )
+        receive::space_answer(self.q, self.n, self.k, t, space, &self.entries[..size])
     }
 }
 

@@ -3,7 +3,7 @@
 --   rows-accepted, rows-unrefused == it is so exactly there
 --   receive-split    == 6 is the last of the refusals before 8
 --   receive-unrefused, receive-accepted == nor does 6
---   choice-known, receive-known == what these tests come to is a refusal, or none
+--   receive-known == what these tests come to is a refusal, or none
 --   receive-told     == what an answer of Receive tells
 -- Assumes nothing.
 use Rattle.std.specs.Prelude.{◌≡◌, true, T, length}
@@ -14,14 +14,12 @@ use Prim.Native.Nat.{ℕ, ◌*◌, ◌≤◌}
 use Rattle.basics.specs.Laws.Choice.{holds}
 use Rattle.refusal.specs.Refusal.{entry_refusal, refuse_unless, first}
 use Rattle.refusal.specs.Laws.First.{first-zero, first-passed, test_zero, test-passed, first-none, first_head, first_tail}
-use Rattle.refusal.specs.Laws.First.{Known, known-none, known-test, known-first}
-use Rattle.refusal.specs.declared.Refusal.TheVariants.{Numbering}
+use Rattle.refusal.specs.Laws.First.{Known, known-none, known-first}
 use Rattle.matrix.specs.Matrix.{entries_below}
-use Rattle.settings.specs.Laws.Accepted.{settings-known}
 use Rattle.linear.specs.Span.{rows_of}
 use Rattle.linear.specs.Eliminate.{reduced_of, dimension}
 use Rattle.numbering.specs.Numbering.{choice_refusal}
-use Rattle.numbering.specs.Laws.Chosen.{Chosen, chosen}
+use Rattle.numbering.specs.Laws.Chosen.{Chosen, chosen, choice-known}
 use Rattle.reduce.specs.Reduce.{most_rows, rows_size_refusal, row_list_refusal}
 use Rattle.reduce.specs.Laws.RowList.{rows-size-accepted, rows-size-unrefused, row-list-known}
 use Rattle.receive.specs.Answer.{Received, Told}
@@ -32,10 +30,6 @@ pub record RowsAccepted (q n k t r size : ℕ) : Type 0 where
   pub choice : Chosen q n k t
   pub few : r ≤ most_rows
   pub sized : size ≡ r * n
-
-pub choice-known : (q n k t : ℕ) → Known (choice_refusal q n k t)
-unfolding choice_refusal
-choice-known q n k t = known-first _ _ (settings-known q n k) (known-first _ _ (known-test _ Numbering) known-none)
 
 module _ (q n k t r : ℕ) where
   pub rows-accepted : (size : ℕ) → rows_refusal q n k t r size ≡ 0 → RowsAccepted q n k t r size

@@ -6,9 +6,8 @@ use Rattle.refusal.specs.Laws.First.{test-refused, test-passed, done}
 use Rattle.settings.specs.Laws.Accepted.{accepted}
 use Rattle.numbering.specs.Numbering.{is_numbering}
 use Rattle.numbering.specs.Laws.Either.{code-known}
-use Rattle.receive.specs.Answer.{space_answer}
 use Rattle.receive.proofs.Laws.Space.{received-refused}
-use Rattle.receiver.specs.Receiver.{used, close_refusal, close_of}
+use Rattle.receiver.specs.Receiver.{close_refusal, close_of}
 use Rattle.receiver.specs.Laws.Sound.{sound, used-fit}
 use Rattle.receiver.specs.Laws.TakeAccepted.{close-unrefused, close-told}
 use Rattle.receiver.proofs.Laws.Formed.{found, missing}
@@ -24,16 +23,16 @@ returns-in_err-vector-clause-value c =
 pub returns-in_err-vector-clause-told : goal.returns-in_err-vector-clause-told
 returns-in_err-vector-clause-told c = close-told _ _ _ (returns-in_err-vector-clause-value c)
 
-pub returns-in_err-numbering-clause-value : goal.returns-in_err-numbering-clause-value
+pub returns-in_err-try_from-clause-value : goal.returns-in_err-try_from-clause-value
 unfolding close_of close_refusal
-returns-in_err-numbering-clause-value c =
-    let p = err_from_is_err_and c.from_residual-in_err-numbering.result c.from_residual-in_err-numbering.ensures.1 in
+returns-in_err-try_from-clause-value c =
+    let p = err_from_is_err_and c.from_residual-in_err-try_from.result c.from_residual-in_err-try_from.ensures.1 in
     let f = found _ _ c.formed.ensures _ _ c.in_ok-vector.ensures.value in
-    let e = c.in_err-numbering.ensures in
+    let e = c.in_err-try_from.ensures in
     rw (p.1, p.2) (received-refused _ _ _ (ap number e.0 ∙ sym (test-passed _ _ _ f.0 ∙ test-refused _ _ _ tt e.1)))
 
-pub returns-in_err-numbering-clause-told : goal.returns-in_err-numbering-clause-told
-returns-in_err-numbering-clause-told c = close-told _ _ _ (returns-in_err-numbering-clause-value c)
+pub returns-in_err-try_from-clause-told : goal.returns-in_err-try_from-clause-told
+returns-in_err-try_from-clause-told c = close-told _ _ _ (returns-in_err-try_from-clause-value c)
 
 pub overflow_mul-size : goal.overflow_mul-size
 overflow_mul-size c =
@@ -57,11 +56,9 @@ space_answer-requires c =
 pub returns-clause-value : goal.returns-clause-value
 unfolding close_of
 returns-clause-value c =
-    let r = c.args.self in
     let f = found _ _ c.formed.ensures _ _ c.in_ok-vector.ensures.value in
-    let chosen = c.in_ok-numbering.ensures in
+    let chosen = c.in_ok-try_from.ensures in
     c.space_answer.ensures
-    ∙ ap (λ t. space_answer r.q r.n r.k t r.dimension (used r)) chosen
     ∙ done _ _ _ (close-unrefused _ _ f.0 (ap is_numbering (sym chosen) ∙ code-known _))
 
 pub returns-clause-told : goal.returns-clause-told
