@@ -47,7 +47,7 @@ fn write_space(buffer: &mut [u8], settings: Settings, index: ExtendedIndex) -> u
     let k = settings.k as usize;
     let mut entries = [0u8; 256];
     let matrix = &mut entries[..k * n];
-    let found = numbering::unrank_indexes(matrix, q, n, k, Numbering::Extended, index.0);
+    let found = Numbering::Extended.unrank_indexes(matrix, q, n, k, index.0);
     let rows = Rows {
         entries: matrix,
         n,
