@@ -4,7 +4,7 @@
 ghost use Rattle.std.specs.Prelude.{[], ◌∷◌};
 ghost use Rattle.text.specs.Text.{line_feed, numeral};
 ghost use Rattle.text.specs.Piece.{Composed};
-ghost use Rattle.rows_text.specs.Rows.{rows_text};
+ghost use Rattle.rows_text.specs.Rows.{DigitRows, rows_text};
 ghost use Rattle.line.specs.Line.{line_pieces};
 
 use extended::ExtendedIndex;
@@ -19,6 +19,7 @@ pub fn put_space(
     ferrers: FerrersIndex,
     rows: Rows,
 ) -> usize
+    requires { DigitRows rows.n rows.k rows.entries.now }
     ensures { Composed buffer.old
         (line_pieces extended.0 ferrers.0 (rows_text rows.entry.n rows.entry.k rows.entry.entries.now))
         result buffer.new }

@@ -15,8 +15,7 @@
 -- Theorems has `chunk-remaining`, `chunk-empty`, `finished` and `chunks-are-the-output`.
 -- Assumes nothing.
 use Rattle.std.specs.Prelude.{Option, Some, None, Bool, true, false, ◌&&◌, List, [], ◌++◌, ℕ, zero, suc, ◌+◌, ◌*◌, ◌-◌, eqb, ltb}
-use Rattle.refusal.specs.Refusal.{number, named}
-use Rattle.refusal.specs.declared.Refusal.TheVariants as refusals
+use Rattle.refusal.specs.Refusal.{line_refusal}
 use Rattle.counts.specs.Gaussian.{gaussian}
 use Rattle.settings.specs.Settings.{list_refusal}
 use Rattle.settings_line.specs.SettingsLine.{parsed}
@@ -68,13 +67,13 @@ remaining_lines p =
 abbrev pub remaining : State → List ℕ
 remaining (Header x) = header ++ remaining_lines (started x)
 remaining (Lines p) = remaining_lines p
-remaining (Refused r) = refused_line (number r)
+remaining (Refused r) = refused_line r
 remaining Done = []
 
 abbrev pub begun_for : Option Settings → State
-begun_for None = Refused refusals.Line
+begun_for None = Refused line_refusal
 begun_for (Some x) =
-    elim (eqb (list_refusal x.q x.n x.k) 0) [ true ↦ Header x | false ↦ Refused (named (list_refusal x.q x.n x.k)) ]
+    elim (eqb (list_refusal x.q x.n x.k) 0) [ true ↦ Header x | false ↦ Refused (list_refusal x.q x.n x.k) ]
 
 unfoldable pub begun : List ℕ → State
 begun input = begun_for (parsed input)
@@ -89,7 +88,7 @@ lines_chunk p =
 abbrev pub chunk_of : State → List ℕ
 chunk_of (Header x) = header
 chunk_of (Lines p) = lines_chunk p
-chunk_of (Refused r) = refused_line (number r)
+chunk_of (Refused r) = refused_line r
 chunk_of Done = []
 
 unfoldable pub lines_next : Progress → State

@@ -10,11 +10,9 @@
 --   line-fits        == "a listing line, at most 276 bytes, always fits" in the lent 320
 -- Assumes nothing.
 use Rattle.std.specs.Prelude.{Option, Some, None, ◌≡◌, refl, Bool, true, false, List, [], ◌++◌, ℕ, zero, suc, ◌+◌, ◌*◌, ◌-◌, ◌≤◌, ◌<◌, eqb, length, take}
-use Rattle.std.proofs.lemmas.Bool.{eqb-false}
 use Rattle.std.proofs.Common.{ap, ap₂, ◌∙◌, sym, append_assoc, append-nil, arith, eqb-true, length-append}
 use Rattle.std.proofs.Math.Nat.{sub-zero}
 use Rattle.counts.specs.Gaussian.{gaussian}
-use Rattle.refusal.specs.Refusal.{number, named}
 use Rattle.settings.specs.Settings.{list_refusal}
 use Rattle.settings.specs.Laws.Listable.{listable}
 use Rattle.settings_line.specs.SettingsLine.{decisive, parsed}
@@ -27,7 +25,7 @@ use Rattle.listing.specs.Listing.{listing_line, lines_from, column_names, header
 use Rattle.listing.specs.Listing.{listing_output}
 use Rattle.listing.specs.Laws.Listing.{lines-append}
 use Rattle.listing.specs.Laws.Line.{line-short, line-nonempty}
-use Rattle.listing.specs.Laws.Steps.{listing-known, live-is, end-within, remaining-live, remaining-dead, remaining-from, chunk-live}
+use Rattle.listing.specs.Laws.Steps.{live-is, end-within, remaining-live, remaining-dead, remaining-from, chunk-live}
 use Rattle.listing.specs.Laws.Steps.{chunk-dead, next-live, next-dead, past-dead}
 use Rattle.listing.specs.Steps.{count_of, lines_of, chunk_lines, most_steps, live, lines_end, progress_to, started, remaining_lines, remaining, begun_for}
 use Rattle.listing.specs.Steps.{begun}
@@ -41,7 +39,7 @@ output-for None = refl
 output-for (Some x) = cases (eqb (list_refusal x.q x.n x.k) 0) refl
   where
     cases : (b : Bool) → eqb (list_refusal x.q x.n x.k) 0 ≡ b
-        → remaining (elim b [ true ↦ Header x | false ↦ Refused (named (list_refusal x.q x.n x.k)) ])
+        → remaining (elim b [ true ↦ Header x | false ↦ Refused (list_refusal x.q x.n x.k) ])
         ≡ elim b [
           | true ↦ header ++ lines_from x.q x.n x.k 0 (gaussian x.q x.n x.k)
           | false ↦ refused_line (list_refusal x.q x.n x.k)
@@ -50,7 +48,7 @@ output-for (Some x) = cases (eqb (list_refusal x.q x.n x.k) 0) refl
         ap (λ t. header ++ t)
         (remaining-from (started x) (eqb-true (list_refusal x.q x.n x.k) 0 e)
         ∙ ap (lines_from x.q x.n x.k 0) (sub-zero (gaussian x.q x.n x.k)))
-    cases false e = ap refused_line (listing-known x.q x.n x.k (eqb-false (list_refusal x.q x.n x.k) 0 e))
+    cases false e = refl
 
 pub begun-remaining : (input : List ℕ) → remaining (begun input) ≡ listing_output input
 unfolding begun listing_output
@@ -76,7 +74,7 @@ lines-remaining p true e =
 pub chunk-remaining : (s : State) → chunk_of s ++ remaining (next_state s) ≡ remaining s
 chunk-remaining (Header x) = refl
 chunk-remaining (Lines p) = lines-remaining p (live p) refl
-chunk-remaining (Refused r) = append-nil (refused_line (number r))
+chunk-remaining (Refused r) = append-nil (refused_line r)
 chunk-remaining Done = refl
 
 some-lines : (q n k i m : ℕ) → 1 ≤ m → length (lines_from q n k i m) ≡ 0 → ⊥

@@ -18,12 +18,12 @@ pub struct Progress {
     pub index: ExtendedIndex,
 }
 
-// What is still to be written.
+// What is still to be written. A refusal by its number, since `step` takes a state with any.
 #[derive(Clone, Copy)]
 pub enum State {
     Header(Settings),
     Lines(Progress),
-    Refused(Refusal),
+    Refused(u32),
     Done,
 }
 
@@ -40,11 +40,11 @@ pub fn begin(input: &[u8]) -> State
     ensures { result ≡ begun input.now }
 {
     let Some(settings) = settings_line::parse(input) else {
-        return State::Refused(Refusal::Line);
+        return State::Refused(Refusal::Line.into());
     };
     match settings::check_listing(settings.q, settings.n, settings.k) {
         Ok(()) => State::Header(settings),
-        Err(refusal) => State::Refused(refusal),
+        Err(refusal) => State::Refused(refusal.into()),
     }
 }
 
@@ -109,9 +109,9 @@ pub fn step(state: State, chunk: &mut [u8; CHUNK_SIZE]) -> Stepped
             size: write::write_header(chunk),
         },
         State::Lines(progress) => lines_step(progress, chunk),
-        State::Refused(refusal) => Stepped {
+        State::Refused(number) => Stepped {
             state: State::Done,
-            size: write::write_refused(chunk, refusal),
+            size: write::write_refused(chunk, number),
         },
         State::Done => Stepped {
             state: State::Done,

@@ -1,6 +1,5 @@
 // The lines of the listing, each written to the front of a buffer that has room for it.
 ghost use Rattle.std.specs.Prelude.{◌≡◌, ◌-◌, ◌≤◌, ◌<◌, length};
-ghost use Rattle.refusal.specs.Refusal.{number};
 ghost use Rattle.counts.specs.Gaussian.{gaussian};
 ghost use Rattle.settings.specs.Laws.Listable.{Listable};
 ghost use Rattle.listing.specs.Front.{written};
@@ -10,7 +9,6 @@ ghost use Rattle.listing.specs.Steps.{chunk_lines, chunk_size};
 
 use extended::ExtendedIndex;
 use numbering::Numbering;
-use refusal::Refusal;
 use rows_text::Rows;
 use settings_line::Settings;
 
@@ -26,13 +24,11 @@ pub(crate) fn write_header(buffer: &mut [u8]) -> usize
 }
 
 // Writes the line of a refusal.
-pub(crate) fn write_refused(buffer: &mut [u8], refusal: Refusal) -> usize
+pub(crate) fn write_refused(buffer: &mut [u8], refusal: u32) -> usize
     requires { line_room ≤ length buffer.old }
-    ensures { (result ≡ length (refused_line (number refusal)))
-        × (buffer.new ≡ written (refused_line (number refusal)) buffer.old) }
+    ensures { (result ≡ length (refused_line refusal)) × (buffer.new ≡ written (refused_line refusal) buffer.old) }
 {
-    let number = u32::from(refusal);
-    line::put_numbered(&mut buffer[..LINE_ROOM], b"refused,", u64::from(number))
+    line::put_numbered(&mut buffer[..LINE_ROOM], b"refused,", u64::from(refusal))
 }
 
 // Writes the line of the space with the given extended index.

@@ -10,16 +10,15 @@
 --   exported_refusal  == the refusals before 8, with a lent answer of `size` bytes; exported_number == all of them
 --   exported_of       == the answer; exported_bytes == the lent answer afterwards
 -- Assumes nothing.
-use Rattle.std.specs.Prelude.{List, [], ◌∷◌, ◌++◌, ℕ, zero, suc, ◌/◌, ◌%◌, eqb, length}
-use Rattle.refusal.specs.Refusal.{length_refusal, entry_refusal, refuse_unless, first, unless_refused}
+use Rattle.std.specs.Prelude.{List, [], ◌∷◌, ◌++◌, ℕ, zero, suc, ◌/◌, ◌%◌, eqb, length, Ok, Err}
+use Rattle.refusal.specs.Refusal.{length_refusal, entry_refusal, refuse_unless, first}
 use Rattle.matrix.specs.Matrix.{entries_below}
 use Rattle.linear.specs.Span.{rows_of}
 use Rattle.linear.specs.Eliminate.{dimension}
 use Rattle.numbering.specs.Numbering.{index_value}
-use Rattle.receive.specs.Answer.{space_refusal}
+use Rattle.receive.specs.Answer.{Received, received, space_refusal}
 use Rattle.receive.specs.Receive.{rows_refusal, reduced_answer}
-use Rattle.receive.specs.declared.Received.{Received}
-use Rattle.receive.specs.declared.Received.TheVariants.{Done, TooFew, TooMany, Refused}
+use Rattle.receive.specs.declared.Unreceived.TheVariants.{TooFew, TooMany, Refused}
 
 abbrev pub answer_size : ℕ
 answer_size = 11
@@ -32,10 +31,10 @@ abbrev pub answer_bytes : ℕ → ℕ → ℕ → List ℕ
 answer_bytes i d v = bytes_of 8 i ++ (d ∷ bytes_of 2 v)
 
 abbrev pub left_bytes : List ℕ → Received → List ℕ
-left_bytes answer (Done i s) = answer_bytes (index_value i) s.dimension s.vector
-left_bytes answer (TooFew s) = answer_bytes 0 s.dimension s.vector
-left_bytes answer (TooMany s) = answer_bytes 0 s.dimension s.vector
-left_bytes answer (Refused r) = answer
+left_bytes answer (Ok (i, s)) = answer_bytes (index_value i) s.dimension s.vector
+left_bytes answer (Err (TooFew s)) = answer_bytes 0 s.dimension s.vector
+left_bytes answer (Err (TooMany s)) = answer_bytes 0 s.dimension s.vector
+left_bytes answer (Err (Refused r)) = answer
 
 unfoldable pub exported_refusal : ℕ → ℕ → ℕ → ℕ → ℕ → List ℕ → ℕ → ℕ
 exported_refusal q n k t r input size =
@@ -50,8 +49,7 @@ exported_number q n k t r input size =
     first (exported_refusal q n k t r input size ∷ space_refusal k (dimension q n (rows_of n r input)) ∷ [])
 
 unfoldable pub exported_of : ℕ → ℕ → ℕ → ℕ → ℕ → List ℕ → ℕ → Received
-exported_of q n k t r input size =
-    unless_refused (exported_refusal q n k t r input size) (reduced_answer q n k t r input) (Refused (exported_refusal q n k t r input size))
+exported_of q n k t r input size = received (exported_refusal q n k t r input size) (reduced_answer q n k t r input)
 
 unfoldable pub exported_bytes : ℕ → ℕ → ℕ → ℕ → ℕ → List ℕ → List ℕ → List ℕ
 exported_bytes q n k t r input answer = left_bytes answer (exported_of q n k t r input (length answer))

@@ -3,15 +3,17 @@
 #![tactic(auto)]
 
 ghost use Rattle.std.specs.Prelude.{◌≡◌, ◌<◌, length};
+ghost use Rattle.refusal.specs.Refusal.{number_of};
 ghost use Rattle.draw.specs.Draw.{draw_refusal, draw_buffer};
 ghost use Rattle.draw_batch.specs.Batch.{batch_refusal, batch_matrices, batch_answers};
-ghost use Rattle.numbering.specs.Numbering.{index_value};
 ghost use Rattle.receive.specs.Answer.{received_number, received_dimension};
 ghost use Rattle.pandrwyg.specs.Exported.{answer_size, answer_bytes, left_bytes, exported_refusal};
 ghost use Rattle.pandrwyg.specs.Exported.{exported_of, exported_number, exported_bytes};
 
-use receive::Received;
+use numbering::Index;
+use receive::Unreceived;
 use reduce::Space;
+use refusal::Refusal;
 
 // Draw for C: writes the reduced matrix with the given index of the numbering t. Refuses 1, 2, 3, 10, 4 (the buffer is not exactly k×n
 // bytes), 5, and then leaves the buffer.
@@ -19,7 +21,7 @@ pub fn pandrwyg_draw_raw(q: u64, n: u64, k: u64, t: u64, index: u64, matrix: &mu
     ensures value { result ≡ draw_refusal q n k t index (length matrix.old) }
     ensures matrix_after { matrix.new ≡ draw_buffer q n k t index matrix.old }
 {
-    draw::draw(q, n, k, t, index, matrix)
+    refusal::number_of(draw::draw(q, n, k, t, index, matrix))
 }
 
 // Draws a list of indexes for C: the reduced matrix of each index of the numbering t goes to its k×n bytes of `matrices`, and 0 to its byte
@@ -41,7 +43,7 @@ pub fn pandrwyg_draw_batch_raw(
     ensures answers_after { answers.new
         ≡ batch_answers q n k t indexes.now (length matrices.old) answers.old }
 {
-    draw_batch::draw_batch(q, n, k, t, indexes, matrices, answers)
+    refusal::number_of(draw_batch::draw_batch(q, n, k, t, indexes, matrices, answers))
 }
 
 // The bytes of a lent answer: the index in eight, the dimension in one, the identifying vector in two.
@@ -52,66 +54,54 @@ fn write_answer(answer: &mut [u8], index: u64, space: Space)
     requires { (length answer.old ≡ answer_size) × (space.dimension < 256) }
     ensures { answer.new ≡ answer_bytes index space.dimension space.vector }
 {
-    let mut rest = index;
-    let mut i = 0;
-    while i < 8 {
-        answer[i] = (rest % 256) as u8;
-        rest = rest / 256;
-        i += 1;
-    }
+    answer[..8].copy_from_slice(&index.to_le_bytes());
     answer[8] = space.dimension as u8;
-    answer[9] = (space.vector % 256) as u8;
-    answer[10] = (space.vector / 256 % 256) as u8;
-}
-
-// The number of an index, whichever numbering it is of.
-fn index_value(index: numbering::Index) -> u64
-    ensures { result ≡ index_value index }
-{
-    match index {
-        numbering::Index::Extended(i) => i.0,
-        numbering::Index::Ferrers(i) => i.0,
-    }
+    answer[9..].copy_from_slice(&space.vector.to_le_bytes());
 }
 
 // Leaves what was received in the lent answer, and gives its refusal number.
-fn leave(received: Received, answer: &mut [u8]) -> u32
+fn leave(received: Result<(Index, Space), Unreceived>, answer: &mut [u8]) -> u32
     requires { (length answer.old ≡ answer_size) × (received_dimension received < 256) }
     ensures value { result ≡ received_number received }
     ensures answer_after { answer.new ≡ left_bytes answer.old received }
 {
     match received {
-        Received::Done(index, space) => {
-            write_answer(answer, index_value(index), space);
+        Ok((index, space)) => {
+            write_answer(answer, index.into(), space);
             0
         }
-        Received::TooFew(space) => {
+        Err(Unreceived::TooFew(space)) => {
             write_answer(answer, 0, space);
-            refusal::TOO_FEW
+            Refusal::TooFew.into()
         }
-        Received::TooMany(space) => {
+        Err(Unreceived::TooMany(space)) => {
             write_answer(answer, 0, space);
-            refusal::TOO_MANY
+            Refusal::TooMany.into()
         }
-        Received::Refused(refusal) => refusal,
+        Err(Unreceived::Refused(refusal)) => refusal.into(),
     }
 }
 
-// The first refusal of Receive with a lent answer of `size` bytes that applies, but for 8 and 9; 0 where none does.
-fn exported_refusal(q: u64, n: u64, k: u64, t: u64, row_count: u64, rows: &[u8], size: usize) -> u32
-    ensures { result ≡ exported_refusal q n k t row_count rows.now size }
+// Tests what Receive is given, with a lent answer of `size` bytes, but for the span: the first of its refusals that applies.
+fn check(
+    q: u64,
+    n: u64,
+    k: u64,
+    t: u64,
+    row_count: u64,
+    rows: &[u8],
+    size: usize,
+) -> Result<(), Refusal>
+    ensures { number_of result ≡ exported_refusal q n k t row_count rows.now size }
 {
-    let refusal = receive::rows_refusal(q, n, k, t, row_count, rows.len());
-    if refusal != 0 {
-        return refusal;
-    }
+    receive::check_size(q, n, k, t, row_count, rows.len())?;
     if size != ANSWER_SIZE {
-        return refusal::LENGTH;
+        return Err(Refusal::Length);
     }
     if !matrix::entries_below(rows, q) {
-        return refusal::ENTRY;
+        return Err(Refusal::Entry);
     }
-    0
+    Ok(())
 }
 
 // Receive for C: the answer is a lent buffer of eleven bytes, the index, the dimension and the identifying vector, each least byte first.
@@ -130,9 +120,8 @@ pub fn pandrwyg_receive_raw(
     ensures answer_after { answer.new ≡ exported_bytes q n k t row_count rows.now answer.old }
     ensures value_2 { result ≡ exported_number q n k t row_count rows.now (length answer.old) }
 {
-    let refusal = exported_refusal(q, n, k, t, row_count, rows, answer.len());
-    if refusal != 0 {
-        return refusal;
+    match check(q, n, k, t, row_count, rows, answer.len()) {
+        Ok(()) => leave(receive::reduced_answer(q, n, k, t, row_count, rows), answer),
+        Err(refusal) => refusal.into(),
     }
-    leave(receive::reduced_answer(q, n, k, t, row_count, rows), answer)
 }

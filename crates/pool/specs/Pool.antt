@@ -9,15 +9,16 @@
 --   pool_of        == what pooling hands back; joint_buffer, common_buffer == the buffers afterwards
 --   pool_number, pool_joint, pool_common == the refusal number and the two dimensions of each case of the answer
 -- Assumes nothing.
-use Rattle.std.specs.Prelude.{Bool, ◌&&◌, List, [], ◌∷◌, ◌++◌, ℕ, ◌*◌, eqb, length}
+use Rattle.std.specs.Prelude.{Bool, ◌&&◌, List, [], ◌∷◌, ◌++◌, ℕ, ◌*◌, eqb, length, Result, Ok, Err}
 use Rattle.refusal.specs.Refusal.{length_refusal, receiver_refusal, mismatch_refusal, refuse_unless, first, unless_refused}
+use Rattle.refusal.specs.Refusal.{number, named}
+use Rattle.refusal.specs.declared.Refusal.{Refusal}
 use Rattle.reduction.specs.Padded.{padded}
 use Rattle.spaces.specs.Spaces.{joint_of, joint_dimension, common_of, common_dimension}
 use Rattle.receiver.specs.Receiver.{setup_of, no_setup, empty, well_formed, held_rows, holding}
 use Rattle.receiver.specs.declared.Receiver.{Receiver}
 use Rattle.pool.specs.declared.Pooled.{Pooled}
-use Rattle.pool.specs.declared.PoolAnswer.{PoolAnswer}
-use Rattle.pool.specs.declared.PoolAnswer.TheVariants.{Done, Refused}
+use Rattle.pool.specs.declared.Dimensions.{Dimensions}
 
 unfoldable pub alike : Receiver → Receiver → Bool
 alike a b = eqb a.q b.q && (eqb a.n b.n && (eqb a.k b.k && eqb a.pack b.pack))
@@ -38,7 +39,7 @@ pooled a b =
     record {
       receiver = holding (setup_of a) (held_rows a ++ held_rows b);
       answer =
-          Done
+          Ok
           (record {
             joint = joint_dimension a.q a.n (held_rows a) (held_rows b);
             common = common_dimension a.q a.n (held_rows a) (held_rows b);
@@ -48,7 +49,7 @@ pooled a b =
 unfoldable pub pool_of : Receiver → Receiver → ℕ → ℕ → Pooled
 pool_of a b joint common =
     unless_refused (pool_refusal a b joint common) (pooled a b)
-    (record { receiver = empty no_setup; answer = Refused (pool_refusal a b joint common) })
+    (record { receiver = empty no_setup; answer = Err (named (pool_refusal a b joint common)) })
 
 unfoldable pub joint_buffer : Receiver → Receiver → List ℕ → ℕ → List ℕ
 joint_buffer a b joint common =
@@ -60,14 +61,14 @@ common_buffer a b joint common =
     unless_refused (pool_refusal a b joint (length common))
     (padded (a.n * a.n) (common_of a.q a.n (held_rows a) (held_rows b))) common
 
-abbrev pub pool_number : PoolAnswer → ℕ
-pool_number (Done s) = 0
-pool_number (Refused r) = r
+abbrev pub pool_number : Result Dimensions Refusal → ℕ
+pool_number (Ok s) = 0
+pool_number (Err r) = number r
 
-abbrev pub pool_joint : PoolAnswer → ℕ
-pool_joint (Done s) = s.joint
-pool_joint (Refused r) = 0
+abbrev pub pool_joint : Result Dimensions Refusal → ℕ
+pool_joint (Ok s) = s.joint
+pool_joint (Err r) = 0
 
-abbrev pub pool_common : PoolAnswer → ℕ
-pool_common (Done s) = s.common
-pool_common (Refused r) = 0
+abbrev pub pool_common : Result Dimensions Refusal → ℕ
+pool_common (Ok s) = s.common
+pool_common (Err r) = 0

@@ -2,7 +2,7 @@
 #![tactic(auto)]
 
 ghost use Rattle.std.specs.Prelude.{◌≡◌, true, ◌++◌, ◌+◌, ◌*◌, length};
-ghost use Rattle.refusal.specs.Refusal.{unless_refused};
+ghost use Rattle.refusal.specs.Refusal.{unless_refused, number_of};
 ghost use Rattle.linear.specs.Eliminate.{join};
 ghost use Rattle.reduction.specs.Padded.{padded};
 ghost use Rattle.spaces.specs.Spaces.{stacked as stacked_of, joint_dimension, common_of, common_dimension};
@@ -11,65 +11,51 @@ ghost use Rattle.pool.specs.Pool.{alike as alike_of, pool_refusal, pool_of, join
 ghost use Rattle.pool.specs.Pool.{pool_number, pool_joint, pool_common};
 
 use receiver::Receiver;
+use refusal::Refusal;
 
 // The dimensions of the joint and of the common space.
-#[derive(Drop)]
+#[derive(Clone, Copy, Debug, PartialEq, Eq)]
 pub struct Dimensions {
     pub joint: u64,
     pub common: u64,
 }
 
-// What pooling answers of the two spaces.
-#[derive(Drop)]
-pub enum PoolAnswer {
-    Done(Dimensions),
-    Refused(u32),
-}
-
-// The pooled receiver, and the answer.
+// The pooled receiver, and what is answered of the two spaces. The receiver stands beside the answer, and not in it, because a refusal hands
+// back one too.
 #[derive(Drop)]
 pub struct Pooled {
     pub receiver: Receiver,
-    pub answer: PoolAnswer,
+    pub answer: Result<Dimensions, Refusal>,
 }
 
 // Whether two receivers have the same q, n and k, and belong to the same pack.
 fn alike(a: Receiver, b: Receiver) -> bool
     ensures { result ≡ alike_of a b }
 {
-    if a.q != b.q {
-        return false;
-    }
-    if a.n != b.n {
-        return false;
-    }
-    if a.k != b.k {
-        return false;
-    }
-    a.pack == b.pack
+    (a.q, a.n, a.k, a.pack) == (b.q, b.n, b.k, b.pack)
 }
 
-// The first refusal of pooling that applies; 0 where none does.
-fn pool_refusal(a: Receiver, b: Receiver, joint: usize, common: usize) -> u32
-    ensures { result ≡ pool_refusal a b joint common }
+// Tests two receivers and the lengths of the two buffers: the first of pooling's refusals that applies.
+fn check(a: Receiver, b: Receiver, joint: usize, common: usize) -> Result<(), Refusal>
+    ensures { number_of result ≡ pool_refusal a b joint common }
 {
     if !a.is_formed() {
-        return refusal::RECEIVER;
+        return Err(Refusal::Receiver);
     }
     if !b.is_formed() {
-        return refusal::RECEIVER;
+        return Err(Refusal::Receiver);
     }
     if !alike(a, b) {
-        return refusal::MISMATCH;
+        return Err(Refusal::Mismatch);
     }
     let size = a.n * a.n;
     if joint as u64 != size {
-        return refusal::LENGTH;
+        return Err(Refusal::Length);
     }
     if common as u64 != size {
-        return refusal::LENGTH;
+        return Err(Refusal::Length);
     }
-    0
+    Ok(())
 }
 
 // The rows of both receivers one above the other, those of the first beside themselves and those of the second beside zeros.
@@ -80,14 +66,12 @@ fn stacked(a: Receiver, b: Receiver) -> [u8; 1024]
     let width = a.n as usize;
     let first = a.dimension as usize;
     let second = b.dimension as usize;
-    let a_entries = a.entries;
-    let b_entries = b.entries;
     let middle = first * (width + width);
     let mut rows = [0u8; 1024];
     double_rows::stack(
         width,
         first,
-        &a_entries[..first * width],
+        &a.entries[..first * width],
         true,
         &mut rows,
         0,
@@ -95,7 +79,7 @@ fn stacked(a: Receiver, b: Receiver) -> [u8; 1024]
     double_rows::stack(
         width,
         second,
-        &b_entries[..second * width],
+        &b.entries[..second * width],
         false,
         &mut rows,
         middle,
@@ -136,8 +120,6 @@ fn joined(a: Receiver, b: Receiver) -> Receiver
     let size = width * width;
     let first = a.dimension as usize;
     let second = b.dimension as usize;
-    let a_entries = a.entries;
-    let b_entries = b.entries;
     let mut entries = [0u8; 256];
     let mut pivots = [0u8; 16];
     let held = reduction::insert_rows(
@@ -145,7 +127,7 @@ fn joined(a: Receiver, b: Receiver) -> Receiver
         width,
         0,
         first,
-        &a_entries[..first * width],
+        &a.entries[..first * width],
         &mut entries[..size],
         &mut pivots,
     );
@@ -154,14 +136,15 @@ fn joined(a: Receiver, b: Receiver) -> Receiver
         width,
         held,
         second,
-        &b_entries[..second * width],
+        &b.entries[..second * width],
         &mut entries[..size],
         &mut pivots,
     );
-    let mut receiver = a;
-    receiver.entries = entries;
-    receiver.dimension = dimension as u64;
-    receiver
+    Receiver {
+        entries,
+        dimension: dimension as u64,
+        ..a
+    }
 }
 
 // Pool: writes the reduced matrices of the smallest space that contains both receivers' and of their common space, each with zeros after
@@ -177,21 +160,19 @@ pub fn pool(a: Receiver, b: Receiver, joint: &mut [u8], common: &mut [u8]) -> Po
         × (pool_common result.answer ≡ unless_refused (pool_refusal a b (length joint.old) (length common.old))
         (common_dimension a.q a.n (held_rows a) (held_rows b)) 0) }
 {
-    let refusal = pool_refusal(a, b, joint.len(), common.len());
-    if refusal != 0 {
+    if let Err(refusal) = check(a, b, joint.len(), common.len()) {
         return Pooled {
-            receiver: receiver::empty_receiver(0, 0, 0, 0),
-            answer: PoolAnswer::Refused(refusal),
+            receiver: Receiver::empty(0, 0, 0, 0),
+            answer: Err(refusal),
         };
     }
     let shared = common_rows(a, b, common);
     let receiver = joined(a, b);
-    let entries = receiver.entries;
     let size = joint.len();
-    basics::copy(&entries[..size], joint, 0);
+    joint.copy_from_slice(&receiver.entries[..size]);
     Pooled {
         receiver,
-        answer: PoolAnswer::Done(Dimensions {
+        answer: Ok(Dimensions {
             joint: receiver.dimension,
             common: shared as u64,
         }),

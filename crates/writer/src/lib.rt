@@ -4,7 +4,7 @@
 
 ghost use Rattle.std.specs.Prelude.{◌≡◌, [], ◌∷◌, ◌<◌};
 ghost use Rattle.text.specs.Text.{comma as comma_byte, slash as slash_byte, line_feed, glyph, numeral};
-ghost use Rattle.rows_text.specs.Rows.{rows_text};
+ghost use Rattle.rows_text.specs.Rows.{DigitRows, rows_text};
 ghost use Rattle.writer.specs.Writer.{Wrote};
 
 use rows_text::Rows;
@@ -85,6 +85,7 @@ impl<'a> Writer<'a> {
 
     // Puts the text of rows in.
     pub fn rows(&mut self, rows: Rows) -> bool
+        requires { DigitRows rows.n rows.k rows.entries.now }
         ensures { Wrote self.old (rows_text rows.entry.n rows.entry.k rows.entry.entries.now) result self.new }
     {
         let filled = rows_text::append_rows(self.buffer, self.at, rows);

@@ -3,10 +3,11 @@
 --   line-short   == a line of listable settings has at most 276 bytes
 --   drawn-is-reduced, ferrers-inside == the drawn matrix is reduced, and its Ferrers index is below the count
 --   line-nonempty == no line is empty
---   digit-rows   == the drawn matrix is one of decimal digits, as its text asks
+--   digit-rows   == the drawn matrix is one of decimal digits, as its text asks, whatever stands behind it
 -- Assumes nothing.
-use Rattle.std.specs.Prelude.{◌≡◌, List, ℕ, ◌+◌, ◌*◌, ◌≤◌, ◌<◌, length}
+use Rattle.std.specs.Prelude.{◌≡◌, List, ◌++◌, ℕ, ◌+◌, ◌*◌, ◌≤◌, ◌<◌, length}
 use Rattle.std.proofs.Common.{ap, ◌∙◌, ⊎_elim, mul-le-mul, arith, length-append}
+use Rattle.std.proofs.Math.ListN.{get_or-append}
 use Rattle.basics.specs.Laws.Order.{le-or-lt}
 use Rattle.field.specs.Laws.Small.{size_small}
 use Rattle.matrix.specs.Matrix.{Reduced}
@@ -43,14 +44,17 @@ module _ (q n k i : ℕ) (a : Accepted q n k) (inside : i < gaussian q n k) wher
   pub ferrers-inside : ferrers_index q n k (drawn_extended q n k i) < gaussian q n k
   ferrers-inside = index-below-count drawn-is-reduced
 
-  pub digit-rows : DigitRows n k (drawn_extended q n k i)
-  digit-rows =
+  pub digit-rows : (rest : List ℕ) → DigitRows n k (drawn_extended q n k i ++ rest)
+  digit-rows rest =
       let r = drawn-is-reduced in
+      let m = drawn_extended q n k i in
       record {
         rows = omega (arith, a.dimension, a.narrow);
         columns = a.narrow;
-        size = omega (arith, r.size);
-        digits = λ place h. omega (arith, r.below place (omega (arith, r.size)), size_small q a.size);
+        size = omega (arith, r.size, length-append m rest);
+        digits = λ place h.
+            rw (get_or-append m rest 0 place (omega (arith, r.size)))
+            (omega (arith, r.below place (omega (arith, r.size)), size_small q a.size));
       }
 
 -- numerals of at most 5 digits where k is below n; where k is n there is one space, and its indexes are 0

@@ -1,6 +1,5 @@
 -- Laws of the steps; no part of the meaning.
 --   begun-malformed, -refused, -header == the state in which the program begins, by what its input is found to be
---   listing-known   == what refuses a listing is a refusal's number
 --   live-is, is_live, refused-dead, past-dead  == when lines are left
 --   end_short, end-long, end-within == up to which index the next chunk lists
 --   remaining-from   == where the settings are not refused, the lines from the index on are left
@@ -13,12 +12,8 @@ use Rattle.std.proofs.Math.Path.{ap}
 use Rattle.std.proofs.Common.{◌∙◌, sym, ⊎_elim, add-one, arith, eq-eqb, ne_eqb, eqb-true, ltb-true, lt-ltb, le-ltb}
 use Rattle.std.proofs.Math.Bool.{true, false, and-false, and-eq-true_iff}
 use Rattle.basics.specs.Laws.Order.{le-or-lt}
-use Rattle.refusal.specs.Refusal.{number, named}
-use Rattle.refusal.specs.Laws.First.{Known, known-none, known-test, known-first, number-positive, named-number}
-use Rattle.refusal.specs.declared.Refusal.{Refusal}
-use Rattle.refusal.specs.declared.Refusal.TheVariants as refusals
+use Rattle.refusal.specs.Refusal.{line_refusal}
 use Rattle.settings.specs.Settings.{list_refusal}
-use Rattle.settings.specs.Laws.Accepted.{settings-known}
 use Rattle.settings_line.specs.SettingsLine.{parsed}
 use Rattle.settings_line.specs.declared.Settings.{Settings}
 use Rattle.listing.specs.Listing.{lines_from}
@@ -85,31 +80,24 @@ remaining-from p r =
     remaining-dead p (past-dead p past) ∙ sym (ap (lines_of p p.index.0) none))
     (λ within. remaining-live p (is_live p r within)) (le-or-lt (count_of p) p.index.0)
 
-pub begun-malformed : (input : List ℕ) → parsed input ≡ None → begun input ≡ Refused refusals.Line
+pub begun-malformed : (input : List ℕ) → parsed input ≡ None → begun input ≡ Refused line_refusal
 unfolding begun
 begun-malformed input e = ap begun_for e
 
 module _ (input : List ℕ) (x : Settings) (e : parsed input ≡ Some x) where
-  pub begun-refused : (refusal : Refusal) → number refusal ≡ list_refusal x.q x.n x.k → begun input ≡ Refused refusal
+  pub begun-refused : (list_refusal x.q x.n x.k ≡ 0 → ⊥) → begun input ≡ Refused (list_refusal x.q x.n x.k)
   unfolding begun
-  begun-refused refusal r =
+  begun-refused r =
       ap begun_for e
-      ∙ ap (λ b. elim b [ true ↦ Header x | false ↦ Refused (named (list_refusal x.q x.n x.k)) ])
-      (ne_eqb (list_refusal x.q x.n x.k) 0 (λ z. number-positive refusal (r ∙ z)))
-      ∙ ap (λ n. Refused (named n)) (sym r) ∙ ap Refused (named-number refusal)
+      ∙ ap (λ b. elim b [ true ↦ Header x | false ↦ Refused (list_refusal x.q x.n x.k) ])
+      (ne_eqb (list_refusal x.q x.n x.k) 0 r)
 
   pub begun-header : list_refusal x.q x.n x.k ≡ 0 → begun input ≡ Header x
   unfolding begun
   begun-header r =
       ap begun_for e
-      ∙ ap (λ b. elim b [ true ↦ Header x | false ↦ Refused (named (list_refusal x.q x.n x.k)) ])
+      ∙ ap (λ b. elim b [ true ↦ Header x | false ↦ Refused (list_refusal x.q x.n x.k) ])
       (eq-eqb (list_refusal x.q x.n x.k) 0 r)
-
--- what refuses a listing is a refusal's number
-pub listing-known : (q n k : ℕ) → Known (list_refusal q n k)
-unfolding list_refusal
-listing-known q n k =
-    known-first _ _ (settings-known q n k) (known-first _ _ (known-test _ refusals.Listing) known-none)
 
 pub chunk-live : (p : Progress) → live p ≡ true
     → lines_chunk p ≡ lines_of p p.index.0 (lines_end (count_of p) p.index.0 - p.index.0)

@@ -1,7 +1,7 @@
 -- What the loop that writes lines keeps; no part of the meaning.
 --   Filling q n k from to start buffer at index == the lines from `from` up to `index` stand at the front of the buffer, which was `start`
 --   lines-short     == m lines have at most 276 m bytes
---   filling-start, -more == it holds at the start and after one more line
+--   filling-start, -more, -end == it holds at the start and after one more line, and what it tells at the end
 --   filling-small, -length == how far the buffer is filled at most, and that it keeps its length
 --   filling-room    == 320 bytes are there for the next line
 -- Assumes nothing.
@@ -93,3 +93,12 @@ module _ (q n k from to : ℕ) (start buffer : List ℕ) (at index : ℕ) (f : F
               ∙ written-more start lines line
               ∙ ap (λ t. written t start) (sym further);
         }
+
+pub filling-end : (q n k from to : ℕ) (start buffer : List ℕ) (at index : ℕ) → Filling q n k from to start buffer at index → to ≤ index
+    → (at ≡ length (lines_from q n k from (to - from))) × (buffer ≡ written (lines_from q n k from (to - from)) start)
+filling-end q n k from to start buffer at index f h =
+    let below : index ≤ to = f.below in
+    let same : index ≡ to = omega arith in (
+      f.place ∙ ap (λ i. length (lines_from q n k from (i - from))) same,
+      f.holds ∙ ap (λ i. written (lines_from q n k from (i - from)) start) same,
+    )

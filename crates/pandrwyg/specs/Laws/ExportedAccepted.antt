@@ -6,22 +6,25 @@
 -- Assumes nothing.
 use Rattle.std.specs.Prelude.{◌≡◌, refl, true, T, eqb, length}
 use Rattle.std.proofs.Math.Path.{ap, sym}
-use Rattle.std.proofs.Common.{◌∙◌, subst}
+use Rattle.std.proofs.Common.{◌∙◌}
 use mathlib.Core.List.{List, [], ◌∷◌}
 use Prim.Native.Nat.{ℕ}
 use Rattle.std.proofs.Math.Decide.{ℕ_discrete}
 use borrow.Author.Tests.{eq-eqb, eqb-true}
 use Rattle.basics.specs.Laws.Choice.{holds}
-use Rattle.refusal.specs.Refusal.{length_refusal, entry_refusal, refuse_unless, first, unless_refused}
-use Rattle.refusal.specs.Laws.First.{first-zero, first-refused, first-passed, test_zero, test-passed, first-none, kept, done}
+use Rattle.refusal.specs.Refusal.{length_refusal, entry_refusal, refuse_unless, first}
+use Rattle.refusal.specs.Laws.First.{first-zero, first-refused, first-passed, test_zero, test-passed, first-none}
+use Rattle.refusal.specs.Laws.First.{Known, known-none, known-test, known-first}
+use Rattle.refusal.specs.declared.Refusal.TheVariants.{Length, Entry}
+use Rattle.numbering.specs.Laws.Chosen.{choice-known}
+use Rattle.reduce.specs.Laws.RowList.{rows-size-known}
 use Rattle.matrix.specs.Matrix.{entries_below}
 use Rattle.linear.specs.Span.{rows_of}
 use Rattle.linear.specs.Eliminate.{reduced_of, dimension}
-use Rattle.receive.specs.Answer.{Told}
+use Rattle.receive.specs.Answer.{Told, received}
 use Rattle.receive.specs.Receive.{rows_refusal, receive_refusal, reduced_answer, receive_of}
 use Rattle.receive.proofs.Laws.ReceiveAccepted.{RowsAccepted, rows-accepted, receive-split}
-use Rattle.receive.proofs.Laws.Space.{space-told, refused-told}
-use Rattle.receive.specs.declared.Received.TheVariants.{Refused}
+use Rattle.receive.proofs.Laws.Space.{received-told}
 use Rattle.pandrwyg.specs.Exported.{answer_size, exported_refusal, exported_of}
 
 pub record ExportedAccepted (q n k t r : ℕ) (input : List ℕ) (size : ℕ) : Type 0 where
@@ -48,23 +51,18 @@ module _ (q n k t r : ℕ) (input : List ℕ) where
   exported-unrefused size e l b =
       first-passed _ _ e ∙ test-passed _ _ _ (eq-eqb size answer_size l) ∙ test-passed _ _ _ b ∙ first-none
 
+  exported-known : (size : ℕ) → Known (exported_refusal q n k t r input size)
+  unfolding exported_refusal rows_refusal
+  exported-known size =
+      known-first _ _
+      (known-first _ _ (choice-known q n k t) (known-first _ _ (rows-size-known n r (length input)) known-none))
+      (known-first _ _ (known-test _ Length) (known-first _ _ (known-test _ Entry) known-none))
+
   pub exported-told : (size : ℕ)
       → Told q n k t (dimension q n (rows_of n r input)) (reduced_of q n (rows_of n r input)) (exported_refusal q n k t r input size)
       (exported_of q n k t r input size)
   unfolding exported_of
-  exported-told size = cases (ℕ_discrete (exported_refusal q n k t r input size) 0)
-    where
-      d : ℕ
-      d = dimension q n (rows_of n r input)
-
-      m : List ℕ
-      m = reduced_of q n (rows_of n r input)
-
-      cases : Dec (exported_refusal q n k t r input size ≡ 0)
-          → Told q n k t (dimension q n (rows_of n r input)) (reduced_of q n (rows_of n r input)) (exported_refusal q n k t r input size)
-          (exported_of q n k t r input size)
-      cases (yes z) = subst (Told q n k t d m (exported_refusal q n k t r input size)) (done _ _ _ z) (space-told q n k t d m _ z)
-      cases (no z) = subst (Told q n k t d m (exported_refusal q n k t r input size)) (kept _ _ _ z) (refused-told q n k t d m _ z)
+  exported-told size = received-told _ _ _ _ _ _ (exported_refusal q n k t r input size) (exported-known size)
 
   -- an answer of the right length adds no refusal
   same : exported_refusal q n k t r input answer_size ≡ receive_refusal q n k t r input
@@ -82,4 +80,4 @@ module _ (q n k t r : ℕ) (input : List ℕ) where
 
   pub exported-receive : exported_of q n k t r input answer_size ≡ receive_of q n k t r input
   unfolding exported_of receive_of
-  exported-receive = ap (λ x. unless_refused x (reduced_answer q n k t r input) (Refused x)) same
+  exported-receive = ap (λ x. received x (reduced_answer q n k t r input)) same

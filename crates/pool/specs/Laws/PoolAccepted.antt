@@ -1,6 +1,7 @@
 -- A pooling that is not refused; no part of the meaning.
 --   PoolAccepted     == what holds where none refuses
 --   pool-accepted, pool-unrefused == what is not refused is PoolAccepted; and back
+--   pool-known       == what these tests come to is a refusal, or none
 --   pool-told        == the number and the dimensions that an answer tells
 -- Assumes nothing.
 use Rattle.std.specs.Prelude.{◌≡◌, true, ℕ, ◌*◌, eqb}
@@ -12,7 +13,8 @@ use Rattle.std.proofs.Math.Dec.{eqb→eq}
 use Rattle.basics.specs.Laws.Choice.{holds}
 use Rattle.basics.specs.Laws.Test.{and_left, and_right}
 use Rattle.refusal.specs.Refusal.{receiver_refusal, length_refusal, mismatch_refusal, refuse_unless, unless_refused}
-use Rattle.refusal.specs.Laws.First.{test_zero, test-passed, first-none, told-number, told-value}
+use Rattle.refusal.specs.Laws.First.{test_zero, test-passed, first-none, told-number, told-value, Known, known-none, known-test, known-first}
+use Rattle.refusal.specs.declared.Refusal.TheVariants as refusals
 use Rattle.spaces.specs.Spaces.{joint_dimension, common_dimension}
 use Rattle.receiver.specs.Receiver.{well_formed, held_rows}
 use Rattle.receiver.specs.declared.Receiver.{Receiver}
@@ -66,6 +68,14 @@ module _ (a b : Receiver) where
         ∙ test-passed _ _ _ (eq-eqb common (a.n * a.n) c)
         ∙ first-none
 
+    pub pool-known : Known (pool_refusal a b joint common)
+    unfolding pool_refusal
+    pool-known =
+        known-first _ _ (known-test _ refusals.Receiver)
+        (known-first _ _ (known-test _ refusals.Receiver)
+        (known-first _ _ (known-test _ refusals.Mismatch)
+        (known-first _ _ (known-test _ refusals.Length) (known-first _ _ (known-test _ refusals.Length) known-none))))
+
     pub pool-told : (p : Pooled) → p ≡ pool_of a b joint common
         → (pool_number p.answer ≡ pool_refusal a b joint common)
         × (pool_joint p.answer
@@ -75,7 +85,7 @@ module _ (a b : Receiver) where
     unfolding pool_of pooled
     pool-told p e =
         let refusal = pool_refusal a b joint common in (
-          ap (λ x. pool_number x.answer) e ∙ told-number refusal _ _ (λ (x : Pooled). pool_number x.answer) refl refl,
+          ap (λ x. pool_number x.answer) e ∙ told-number refusal _ _ (λ (x : Pooled). pool_number x.answer) refl pool-known,
           ap (λ x. pool_joint x.answer) e ∙ told-value refusal _ _ (λ (x : Pooled). pool_joint x.answer) _ refl refl,
           ap (λ x. pool_common x.answer) e ∙ told-value refusal _ _ (λ (x : Pooled). pool_common x.answer) _ refl refl,
         )

@@ -2,16 +2,18 @@
 --   rows_text-length == k rows take k * n places, and k - 1 slashes
 --   rows_text-digit  == at column j of row i stands that entry's digit
 --   rows_text-slash  == after a row that is not the last stands a slash
---   place-row       == the row that a place of the text shows
+--   size-bound      == 16 rows of 16 entries are 256 entries
+--   place-row, place-entry   == the row and the entry that a place of the text shows
 --   place-slash, place-digit == the byte at a place
 --   rows_text-front  == what stands behind the k rows is no part of the text
 -- Assumes nothing.
 use Rattle.std.specs.Prelude.{◌≡◌, List, ◌∷◌, ◌++◌, length}
 use Rattle.std.proofs.Math.Path.{refl}
-use Rattle.std.proofs.Common.{ap, ap₂, ◌∙◌, sym, ⊎_elim, mul-suc, suc-mul, mul-le-mul_right, lt_of_mul-lt-mul_right, div-add-mod', add-zero, add-one, get_or-append-add}
+use Rattle.std.proofs.Common.{ap, ap₂, ◌∙◌, sym, ⊎_elim, mul-suc, suc-mul, mul-le-mul, mul-le-mul_right, lt_of_mul-lt-mul_right, div-add-mod', add-zero, add-one, get_or-append-add}
 use Prim.Native.Nat.{ℕ, zero, suc, ◌+◌, ◌*◌, ◌-◌, ◌/◌, ◌%◌, ◌≤◌, ◌<◌}
 use native.Mathlib.Omega.{arith}
 use Rattle.std.proofs.Math.ListN.{get_or, length-append, get_or-append}
+use Rattle.basics.specs.Laws.Flat.{row_fits}
 use Rattle.basics.specs.Laws.Order.{le-or-lt}
 use Rattle.basics.specs.Laws.Table.{table_at}
 use Rattle.basics.specs.Laws.TableLaws.{tabulate-same}
@@ -85,6 +87,9 @@ module _ (n : ℕ) (m : List ℕ) where
       rw e (ap (λ p. get_or (rows_text n (suc (suc b)) m) p 0) f ∙ later b (suc j) ∙ row_at (suc b) j l))
       (le-or-lt i b)
 
+pub size-bound : (n k : ℕ) → n ≤ 16 → k ≤ 16 → k * n ≤ 256
+size-bound n k h g = omega (arith, mul-le-mul {n₁ = k} {m₁ = n} {n₂ = 16} {m₂ = 16} g h)
+
 some-row : (n k p : ℕ) → p < k * n + (k - 1) → 1 ≤ k
 some-row n zero p h = absurd (omega arith)
 some-row n (suc k) p h = omega arith
@@ -109,6 +114,9 @@ module _ (n k : ℕ) (m : List ℕ) (p : ℕ) (inside : p < k * n + (k - 1)) whe
       let s : p / (n + 1) * (n + 1) + p % (n + 1) ≡ p = div-add-mod' p (n + 1) in
       let f : p / (n + 1) * suc n + p % (n + 1) ≡ p = omega arith in
       sym (ap (λ x. get_or (rows_text n k m) x 0) (sym f) ∙ rows_text-digit n m k (p / (n + 1)) (p % (n + 1)) place-row l)
+
+  pub place-entry : p % (n + 1) < n → p / (n + 1) * n + p % (n + 1) < k * n
+  place-entry l = omega (arith, row_fits (p / (n + 1)) k n place-row)
 
 -- the text is told by the k * n entries alone
 row-front : (n : ℕ) (m rest : List ℕ) (i : ℕ) → i * n + n ≤ length m → row_text n (m ++ rest) i ≡ row_text n m i

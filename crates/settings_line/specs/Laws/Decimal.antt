@@ -3,13 +3,13 @@
 --   read_number     == what is read is the number of the digits there, and the test holds
 --   decimal-unread  == nothing is read where the digits make too great a number
 --   decimal-inside, -empty, -long, -single, -zero-led, -led == what is read where they make the number x, by their number and first byte
---   marked-read     == what is read with the byte behind it
+--   marked-unread, -open, -other, -read == what is read with the byte behind it
 -- Assumes nothing.
 use Rattle.std.specs.Prelude.{Some, None, ◌≡◌, Bool, ◌&&◌, ◌||◌, List, [], ◌∷◌, ℕ, ◌+◌, ◌-◌, ◌≤◌, ◌<◌, leb, eqb, length, get_or, drop}
 use Rattle.std.proofs.Math.Path.{refl, ap, ap₂}
 use Rattle.std.proofs.Common.{◌∙◌, sym, add-zero, arith, length-drop, get_or-drop}
 use Rattle.std.proofs.Math.Bool.{true, false}
-use borrow.Author.Tests.{le-leb, lt-leb, lt-ltb, eq-eqb, ne_eqb}
+use borrow.Author.Tests.{le-leb, lt-leb, lt-ltb, le-ltb, eq-eqb, ne_eqb}
 use Rattle.basics.specs.Choice.{pick}
 use Rattle.settings_line.specs.Decimal.{is_digit, digit_run, reading, is_numeral, greatest, read_if, read_at, decimal_at, marked, marked_at}
 use Rattle.settings_line.specs.declared.decimal.Numeral.{Numeral}
@@ -113,7 +113,19 @@ module _ (text : List ℕ) (at most : ℕ) (x : Numeral) (e : read_at text at �
       let size = read-size in
       decimal-read true (numeral-led most _ (omega arith) (omega arith) (λ f. z (sym (first_byte h) ∙ f)))
 
+pub marked-unread : (text : List ℕ) (at most mark : ℕ) → decimal_at text at most ≡ None → marked_at text at most mark ≡ None
+unfolding marked_at
+marked-unread text at most mark e = ap (marked text mark) e
+
 module _ (text : List ℕ) (at most mark : ℕ) (x : Numeral) (e : decimal_at text at most ≡ Some x) where
+  pub marked-open : length text ≤ x.end → marked_at text at most mark ≡ None
+  unfolding marked_at
+  marked-open h = ap (marked text mark) e ∙ rw (le-ltb x.end (length text) h)
+
+  pub marked_other : x.end < length text → (get_or text x.end 0 ≡ mark → ⊥) → marked_at text at most mark ≡ None
+  unfolding marked_at
+  marked_other h o = ap (marked text mark) e ∙ rw (lt-ltb x.end (length text) h, ne_eqb (get_or text x.end 0) mark o)
+
   pub marked-read : x.end < length text → get_or text x.end 0 ≡ mark
       → marked_at text at most mark ≡ Some (record { value = x.value; end = x.end + 1 })
   unfolding marked_at

@@ -1,5 +1,5 @@
 -- What stands at a cursor, number by number, and what a text is found to be; no part of the meaning.
---   line-whole         == the line that stands at a cursor, where its three numbers are read
+--   line_first, -second, -third == no line, where that number is not read. line-whole == the line, where all are
 --   whole size found   == the settings of the line that was found, where it ends the text
 --   parsed-line        == a text is found to be what stands at its start, where that ends it
 -- Assumes nothing.
@@ -12,11 +12,25 @@ use Rattle.settings_line.specs.declared.decimal.Numeral.{Numeral}
 use Rattle.settings_line.specs.declared.Settings.{Settings}
 use Rattle.settings_line.specs.declared.Line.{Line}
 
-pub line-whole : (s : List ℕ) (at : ℕ) (q : Numeral) → marked_at s at 3 comma ≡ Some q → (n : Numeral) → marked_at s q.end 3 comma ≡ Some n
-    → (k : Numeral) → marked_at s n.end 3 line_feed ≡ Some k
-    → line_at s at ≡ Some (record { settings = record { q = q.value; n = n.value; k = k.value }; end = k.end })
-unfolding line_at
-line-whole s at q e n f k g = rw (e, f, g)
+module _ (s : List ℕ) (at : ℕ) where
+  pub line_first : marked_at s at 3 comma ≡ None → line_at s at ≡ None
+  unfolding line_at
+  line_first e = rw e
+
+  module _ (q : Numeral) (e : marked_at s at 3 comma ≡ Some q) where
+    pub line_second : marked_at s q.end 3 comma ≡ None → line_at s at ≡ None
+    unfolding line_at
+    line_second f = rw (e, f)
+
+    module _ (n : Numeral) (f : marked_at s q.end 3 comma ≡ Some n) where
+      pub line-third : marked_at s n.end 3 line_feed ≡ None → line_at s at ≡ None
+      unfolding line_at
+      line-third g = rw (e, f, g)
+
+      pub line-whole : (k : Numeral) → marked_at s n.end 3 line_feed ≡ Some k
+          → line_at s at ≡ Some (record { settings = record { q = q.value; n = n.value; k = k.value }; end = k.end })
+      unfolding line_at
+      line-whole k g = rw (e, f, g)
 
 abbrev pub whole : ℕ → Option Line → Option Settings
 whole size (Some l) = pick (eqb l.end size) (Some l.settings) None

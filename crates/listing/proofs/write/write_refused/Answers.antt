@@ -1,6 +1,5 @@
 -- The word and the number are the line's, and have room in the 320 bytes that are lent.
-use Rattle.std.proofs.Common.{[], ◌∷◌, ◌++◌, ap, ◌∙◌, ◌≡◌, arith, length-take-le, length-append}
-use Rattle.refusal.specs.Refusal.{number}
+use Rattle.std.proofs.Common.{[], ◌∷◌, ◌++◌, ap, arith, length-take-le, length-append}
 use Rattle.text.specs.Text.{comma, line_feed, numeral}
 use Rattle.text.specs.Laws.Numeral.{numeral-length}
 use Rattle.listing.specs.Line.{line_room}
@@ -11,10 +10,9 @@ use Rattle.listing.proofs.write.write_refused.Goals as goal
 pub returns : goal.returns
 unfolding refused_word refused_line
 returns c =
-    let r = number c.args.refusal in
-    let same : c.from.result ≡ r = c.from.ensures ∙ c.from-number.ensures in
+    let r = c.args.refusal in
     composed-front c.args.buffer.now line_room ((refused_word ++ (comma ∷ [])) ∷ numeral c.from.result ∷ (line_feed ∷ []) ∷ [])
-    (refused_line r) _ _ (ap (λ n. refused_word ++ (comma ∷ (numeral n ++ (line_feed ∷ [])))) same)
+    (refused_line r) _ _ (ap (λ n. refused_word ++ (comma ∷ (numeral n ++ (line_feed ∷ [])))) c.from.ensures)
     (omega (
       arith,
       length-take-le line_room c.args.buffer.now c.requires,

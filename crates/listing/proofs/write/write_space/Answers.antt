@@ -1,12 +1,12 @@
 -- The part of the local array that is drawn into is the drawn matrix, which is reduced, numbered and written.
-use Rattle.std.proofs.Common.{◌≡◌, List, [], ◌∷◌, ◌++◌, ℕ, refl, ◌∙◌, ap, ap₂, sym, arith}
+use Rattle.std.proofs.Common.{◌≡◌, List, [], ◌∷◌, ◌++◌, ℕ, refl, ◌∙◌, subst, append-nil, ap, ap₂, sym, arith}
 use Rattle.extended.specs.Drawn.{drawn_extended}
 use Rattle.ferrers.specs.Ferrers.{ferrers_index}
 use Rattle.numbering.specs.Numbering.{extended}
 use Rattle.numbering.specs.Laws.Either.{is-extended}
 use Rattle.text.specs.Text.{comma, line_feed, numeral}
 use Rattle.text.specs.Piece.{joined}
-use Rattle.rows_text.specs.Rows.{rows_text}
+use Rattle.rows_text.specs.Rows.{DigitRows, rows_text}
 use Rattle.line.specs.Line.{line_pieces}
 use Rattle.listing.specs.Line.{line_text}
 use Rattle.listing.specs.Listing.{listing_line}
@@ -21,12 +21,13 @@ unfolding listing_line line_text
 line q n k i f m drawn numbered =
     ap₂ (λ j t. numeral i ++ (comma ∷ (numeral j ++ (comma ∷ (rows_text n k t ++ (line_feed ∷ [])))))) numbered drawn
 
-pub invariant_of-rows : goal.invariant_of-rows
-invariant_of-rows c =
+pub put_space-requires : goal.put_space-requires
+put_space-requires c =
     let s = c.args.settings in
     let drawn : c.unrank_indexes-found.new.m ≡ drawn_extended s.q s.n s.k c.args.index.0 =
     c.unrank_indexes-found.ensures.m_after ∙ sym (ap (λ N. N.matrix s.q s.n s.k c.args.index.0) (is-extended extended refl)) in
-    rw drawn (record { digits = digit-rows s.q s.n s.k c.args.index.0 c.requires.0.settings c.requires.1 })
+    subst (DigitRows s.n s.k) (append-nil _ ∙ sym drawn)
+    (digit-rows s.q s.n s.k c.args.index.0 c.requires.0.settings c.requires.1 [])
 
 pub returns : goal.returns
 returns c =

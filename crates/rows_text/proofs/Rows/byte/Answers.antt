@@ -6,10 +6,10 @@ use Rattle.rows_text.proofs.Rows.byte.Goals as goal
 pub returns-then-column-self : goal.returns-then-column-self
 returns-then-column-self c =
     let s = c.args.self in
-    place-slash s.n s.k s.entries.now c.args.place c.requires c.if-column-self.true
+    place-slash s.n s.k s.entries.now c.args.place c.requires.1 c.if-column-self.true
 
 pub returns : goal.returns
 returns c =
     let s = c.args.self in
     let column : c.args.place % (s.n + 1) < s.n = omega arith in
-    place-digit s.n s.k s.entries.now c.args.place c.requires column
+    place-digit s.n s.k s.entries.now c.args.place c.requires.1 column
