@@ -4,7 +4,7 @@
 --   batch-otherwise == at a place that is not, the index is N or more, the answer is 5, and the part is as it was
 --   batch-lists    == the list of 0 to N-1 is answered 0 throughout, and leaves every reduced matrix in exactly one place, strictly rising
 -- Assumes nothing.
-use Rattle.std.specs.Prelude.{◌≡◌, List, ◌⊎◌, ℕ, ◌*◌, ◌<◌, ◌≤◌, length, get_or}
+use Rattle.std.specs.Prelude.{◌≡◌, List, ◌⊎◌, ℕ, ◌*◌, ◌<◌, ◌≤◌, length, get_or, Ok}
 use Rattle.std.proofs.Common.{ap, sym, ◌∙◌, subst, subst₂, inl, inr, lt_trans, arith}
 use Rattle.basics.specs.Laws.Order.{le-or-lt}
 use Rattle.basics.specs.Laws.Parts.{part_length}
@@ -21,7 +21,6 @@ use Rattle.draw_batch.specs.Places.{part, Place}
 use Rattle.draw_batch.proofs.Theorems.{order-6}
 use Rattle.draw_batch.specs.Laws.BatchAccepted.{BatchAccepted, batch-accepted}
 use Rattle.number.specs.Number.{number_of}
-use Rattle.number.specs.declared.Numbered.TheVariants.{Done}
 use Rattle.number.proofs.NumberAccepted.{reduced-numbered}
 use Rattle.reduce.specs.Reduce.{most_rows}
 use Rattle.receiver.specs.Receiver.{setup}
@@ -68,7 +67,7 @@ module _ (q n k t : ℕ) (indexes matrices answers : List ℕ)
 
   pub batch-recovers : (place : ℕ) → place < length indexes → answer place ≡ 0
       → (index_at place < gaussian q n k)
-      × (number_of q n k t (left place) ≡ Done (index_in t (index_at place)))
+      × (number_of q n k t (left place) ≡ Ok (index_in t (index_at place)))
       × ((pack : ℕ) → let s = setup q n k pack in
       (cs : List Call) → All (Mixed q n (rows_of n k (left place))) (accepted (begun s) cs) → Recovery s t (index_at place) cs)
       × ((rows : List (List ℕ)) → length rows ≤ most_rows → All (Mixed q n (rows_of n k (left place))) rows
@@ -78,7 +77,7 @@ module _ (q n k t : ℕ) (indexes matrices answers : List ℕ)
       let e = (placed place h).leaves in
       let d = (placed place h).done l in (
         l,
-        reduced-numbered q n k t (left place) whole.choice d.1 ∙ ap (λ x. Done (index_in t x)) d.2,
+        reduced-numbered q n k t (left place) whole.choice d.1 ∙ ap (λ x. Ok (index_in t x)) d.2,
         λ pack cs m. (demand pack).recovery (index_at place) l (lent place) (sized place h) cs
             (subst (λ x. All (Mixed q n (rows_of n k x)) (accepted (begun (setup q n k pack)) cs)) e m),
         λ rows few m. (demand 0).reception (index_at place) l (lent place) (sized place h) rows few

@@ -7,10 +7,11 @@
 --   record-unharmed == where the rows accepted without the zero rows are Mixed from a drawn matrix: demand 3 holds of the list with them,
 --                     zero rows being accepted rows, and closing after it answers by the rows of the list without them
 -- Assumes nothing.
-use Rattle.std.specs.Prelude.{◌≡◌, refl, true, false, List, [], ◌∷◌, ◌++◌, ◌↔◌, ℕ, suc, ◌<◌, length}
+use Rattle.std.specs.Prelude.{◌≡◌, refl, true, false, List, [], ◌∷◌, ◌++◌, ◌↔◌, ℕ, suc, ◌<◌, length, Ok, Err}
 use Rattle.std.proofs.Common.{ap, ap₂, sym, ◌∙◌, subst}
 use Rattle.basics.specs.Laws.Choice.{holds}
 use Rattle.counts.specs.Gaussian.{gaussian}
+use Rattle.refusal.specs.declared.Refusal.TheVariants.{Length, Entry, Pack}
 use Rattle.settings.specs.Settings.{settings_refusal}
 use Rattle.linear.specs.Span.{All, none, Row, InSpan, Mixed, rows_of}
 use Rattle.linear.specs.Laws.Mixture.{span-zero, mixed-in-span}
@@ -21,7 +22,7 @@ use Rattle.receiver.specs.Receiver.{Setup, Offer, setup, offer, setup_refusal, t
 use Rattle.receiver.specs.Laws.Held.{settings-laws, holding-size}
 use Rattle.receiver.specs.declared.Receiver.{Receiver}
 use Rattle.receiver.specs.declared.Taken.{Taken}
-use Rattle.receiver.specs.declared.TakeAnswer.TheVariants.{Raised, Held, Idle, Refused}
+use Rattle.receiver.specs.declared.Effect.TheVariants.{Raised, Held, Idle}
 use Rattle.promise_recovery.specs.Calls.{Call, take_value, take_lent, begun, after, accepted}
 use Rattle.promise_recovery.specs.Demand.{Buffer, Answers, Recovery, Demand, told}
 use Rattle.promise_recovery.proofs.Theorem.{demand-3}
@@ -47,8 +48,8 @@ take-answer s settings cs o = either
 
 pub zeros-idle : (s : Setup) → setup_refusal s ≡ 0 → (cs : List Call)
     → let o = zeros s.pack s.n in
-    (take_of (after (begun s) cs) o ≡ taken_as (after (begun s) cs) Idle)
-    × (lent_answer (after (begun s) cs) o ≡ Idle)
+    (take_of (after (begun s) cs) o ≡ taken_as (after (begun s) cs) (Ok Idle))
+    × (lent_answer (after (begun s) cs) o ≡ Ok Idle)
     × (lent_receiver (after (begun s) cs) o ≡ after (begun s) cs)
 zeros-idle s settings cs =
     let value = take-answer s settings cs (zeros s.pack s.n) by_value in
@@ -73,18 +74,18 @@ pub order-5 : (q n k own : ℕ) → settings_refusal q n k ≡ 0 → let s = set
     -- (After any list of calls from a fresh Start, let t be what Take, in either form, hands back for any row, offered for any pack.)
     ((cs : List Call) (pack : ℕ) (row : List ℕ) (t : Taken) → TakenBy (after (begun s) cs) (offer pack row) t
     -- "Take now answers "idle" for an accepted row of zeros,
-    → ((t.answer ≡ Idle) ↔ ((pack ≡ own) × (row ≡ zero_row n)))
+    → ((t.answer ≡ Ok Idle) ↔ ((pack ≡ own) × (row ≡ zero_row n)))
     -- and "held" means a nonzero row already in the span.
-    × ((t.answer ≡ Held) ↔ ((pack ≡ own) × (row ≡ zero_row n → ⊥) × InSpan q n (accepted (begun s) cs) row))
+    × ((t.answer ≡ Ok Held) ↔ ((pack ≡ own) × (row ≡ zero_row n → ⊥) × InSpan q n (accepted (begun s) cs) row))
     -- (And "raised" a row that isn't. A row of another pack is refused 17, zeros too, and what is no row of n entries, each below q, is
     -- refused as ever.)
-    × ((t.answer ≡ Raised) ↔ ((pack ≡ own) × Row q n row × (InSpan q n (accepted (begun s) cs) row → ⊥)))
-    × ((t.answer ≡ Refused 17) ↔ (pack ≡ own → ⊥))
-    × (pack ≡ own → (length row ≡ n → ⊥) → t.answer ≡ Refused 4)
-    × (pack ≡ own → length row ≡ n → (Row q n row → ⊥) → t.answer ≡ Refused 6)
+    × ((t.answer ≡ Ok Raised) ↔ ((pack ≡ own) × Row q n row × (InSpan q n (accepted (begun s) cs) row → ⊥)))
+    × ((t.answer ≡ Err Pack) ↔ (pack ≡ own → ⊥))
+    × (pack ≡ own → (length row ≡ n → ⊥) → t.answer ≡ Err Length)
+    × (pack ≡ own → length row ≡ n → (Row q n row → ⊥) → t.answer ≡ Err Entry)
     -- The receiver's content is untouched in both cases, (as a whole, and refused too; "raised" its dimension grows by one,)
-    × ((t.answer ≡ Raised → ⊥) → t.receiver ≡ after (begun s) cs)
-    × (t.answer ≡ Raised → t.receiver.dimension ≡ suc (after (begun s) cs).dimension))
+    × ((t.answer ≡ Ok Raised → ⊥) → t.receiver ≡ after (begun s) cs)
+    × (t.answer ≡ Ok Raised → t.receiver.dimension ≡ suc (after (begun s) cs).dimension))
     -- and mixtures that come out zero still never harm a record." (Zero rows put in anywhere, for any pack and by either Take, leave the
     -- same receiver, and so the same Close, in whatever numbering; from any receiver on.)
     × ((r : Receiver) → length r.entries ≡ 256 → (cs ds : List Call) → WithIdle n cs ds

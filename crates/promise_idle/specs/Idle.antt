@@ -9,12 +9,13 @@
 --                         "raised" the dimension grows by one, and otherwise the whole receiver is the one given
 --   WithIdle n cs ds   == the list of calls ds is cs with rows of n zeros put in anywhere, in any number, for any pack, by either Take
 -- Assumes nothing.
-use Rattle.std.specs.Prelude.{◌≡◌, List, [], ◌∷◌, ◌↔◌, ℕ, suc, length, replicate}
+use Rattle.std.specs.Prelude.{◌≡◌, List, [], ◌∷◌, ◌↔◌, ℕ, suc, length, replicate, Ok, Err}
+use Rattle.refusal.specs.declared.Refusal.TheVariants.{Length, Entry, Pack}
 use Rattle.linear.specs.Span.{Row, InSpan}
 use Rattle.receiver.specs.Receiver.{Setup, Offer, offer, take_of, taken_as, lent_receiver, lent_answer}
 use Rattle.receiver.specs.declared.Receiver.{Receiver}
 use Rattle.receiver.specs.declared.Taken.{Taken}
-use Rattle.receiver.specs.declared.TakeAnswer.TheVariants.{Raised, Held, Idle, Refused}
+use Rattle.receiver.specs.declared.Effect.TheVariants.{Raised, Held, Idle}
 use Rattle.promise_recovery.specs.Calls.{Call, take_value, take_lent}
 
 abbrev pub zero_row : ℕ → List ℕ
@@ -25,16 +26,16 @@ pub data TakenBy (r : Receiver) (o : Offer) : Taken → Type 0 where
   lent : TakenBy r o (taken_as (lent_receiver r o) (lent_answer r o))
 
 pub record Answered (s : Setup) (rows : List (List ℕ)) (r : Receiver) (o : Offer) (t : Taken) : Type 0 where
-  pub foreign : (t.answer ≡ Refused 17) ↔ (o.pack ≡ s.pack → ⊥)
-  pub raised : (t.answer ≡ Raised)
+  pub foreign : (t.answer ≡ Err Pack) ↔ (o.pack ≡ s.pack → ⊥)
+  pub raised : (t.answer ≡ Ok Raised)
       ↔ ((o.pack ≡ s.pack) × Row s.q s.n o.row × (InSpan s.q s.n rows o.row → ⊥))
-  pub held : (t.answer ≡ Held)
+  pub held : (t.answer ≡ Ok Held)
       ↔ ((o.pack ≡ s.pack) × (o.row ≡ zero_row s.n → ⊥) × InSpan s.q s.n rows o.row)
-  pub idle : (t.answer ≡ Idle) ↔ ((o.pack ≡ s.pack) × (o.row ≡ zero_row s.n))
-  pub long : o.pack ≡ s.pack → (length o.row ≡ s.n → ⊥) → t.answer ≡ Refused 4
-  pub large : o.pack ≡ s.pack → length o.row ≡ s.n → (Row s.q s.n o.row → ⊥) → t.answer ≡ Refused 6
-  pub grown : t.answer ≡ Raised → t.receiver.dimension ≡ suc r.dimension
-  pub untouched : (t.answer ≡ Raised → ⊥) → t.receiver ≡ r
+  pub idle : (t.answer ≡ Ok Idle) ↔ ((o.pack ≡ s.pack) × (o.row ≡ zero_row s.n))
+  pub long : o.pack ≡ s.pack → (length o.row ≡ s.n → ⊥) → t.answer ≡ Err Length
+  pub large : o.pack ≡ s.pack → length o.row ≡ s.n → (Row s.q s.n o.row → ⊥) → t.answer ≡ Err Entry
+  pub grown : t.answer ≡ Ok Raised → t.receiver.dimension ≡ suc r.dimension
+  pub untouched : (t.answer ≡ Ok Raised → ⊥) → t.receiver ≡ r
 
 -- the offer of a zero row
 abbrev pub zeros : ℕ → ℕ → Offer

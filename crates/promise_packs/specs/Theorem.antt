@@ -4,21 +4,20 @@
 --   both-recovered  == so the rows of two drawn matrices, offered for the two packs by turns in any way, give both indexes
 --   order-8         == the order in one flat statement, under its words
 -- Assumes nothing.
-use Rattle.std.specs.Prelude.{◌≡◌, refl, true, List, ◌↔◌, ◌⊎◌, ℕ, ◌*◌, ◌<◌, length}
+use Rattle.std.specs.Prelude.{◌≡◌, refl, true, List, ◌↔◌, ◌⊎◌, ℕ, ◌*◌, ◌<◌, length, Ok, Err}
 use Rattle.std.proofs.Common.{ap, sym, ◌∙◌, subst, inl, inr, arith}
-use Rattle.refusal.specs.Laws.First.{kept}
+use Rattle.refusal.specs.Laws.First.{kept, named-number}
+use Rattle.refusal.specs.declared.Refusal.TheVariants.{Length, Entry, Pack}
 use Rattle.linear.specs.Span.{All, Among, Row, Mixed, rows_of}
 use Rattle.linear.specs.Laws.Every.{all_map, each-among}
 use Rattle.numbering.specs.Numbering.{is_numbering, index_in}
 use Rattle.drawing.specs.Drawing.{drawing}
 use Rattle.reduce.specs.Reduce.{space_of}
-use Rattle.receive.specs.declared.Received.TheVariants.{Done}
 use Rattle.receiver.specs.Receiver.{Setup, Offer, setup, offer, setup_refusal, empty, start_of, well_formed, take_number}
 use Rattle.receiver.specs.Receiver.{close_refusal, close_of}
 use Rattle.receiver.specs.Laws.TakeAccepted.{take-accepted, take_long, take-large, take_row}
 use Rattle.receiver.specs.declared.Receiver.{Receiver}
 use Rattle.receiver.specs.declared.Taken.{Taken}
-use Rattle.receiver.specs.declared.TakeAnswer.TheVariants.{Refused}
 use Rattle.promise_recovery.specs.Calls.{Call, begun, after, accepted, Reachable, offers, offered, fitting}
 use Rattle.promise_recovery.specs.Demand.{Buffer, Recovery}
 use Rattle.promise_recovery.proofs.Theorem.{demand-3}
@@ -44,7 +43,7 @@ in-rack s settings os cs given =
 -- what one accepts the other refuses
 refuses-other : (s other : Setup) → setup_refusal s ≡ 0 → setup_refusal other ≡ 0 → (s.pack ≡ other.pack → ⊥) → (cs ds : List Call)
     → (o : Offer) {t u : Taken} → TakenBy (after (begun s) cs) o t → TakenBy (after (begun other) ds) o u
-    → take_number t.answer ≡ 0 → u.answer ≡ Refused 17
+    → take_number t.answer ≡ 0 → u.answer ≡ Err Pack
 refuses-other s other settings others apart cs ds o by beside z =
     let r = after (begun s) cs in
     let r' = after (begun other) ds in
@@ -55,13 +54,14 @@ refuses-other s other settings others apart cs ds o by beside z =
     ((foreign-exactly r' (reachable-size reached) o).1
     (reached, λ e. apart (sym (after-pack s settings cs) ∙ sym a.own ∙ e ∙ after-pack other others ds)))
     (λ e. omega (arith, e))
+    ∙ ap Err (named-number Pack)
 
 pub rack : (s other : Setup) → setup_refusal s ≡ 0 → setup_refusal other ≡ 0 → (s.pack ≡ other.pack → ⊥)
     → (os : List Offer) (cs ds : List Call) → offered cs ≡ os → offered ds ≡ os
     → InRack s os cs
     × InRack other os ds
     × ((o : Offer) (t u : Taken) → TakenBy (after (begun s) cs) o t → TakenBy (after (begun other) ds) o u
-    → (take_number t.answer ≡ 0 → u.answer ≡ Refused 17) × (take_number u.answer ≡ 0 → t.answer ≡ Refused 17))
+    → (take_number t.answer ≡ 0 → u.answer ≡ Err Pack) × (take_number u.answer ≡ 0 → t.answer ≡ Err Pack))
 rack s other settings others apart os cs ds given both = (
   in-rack s settings os cs given,
   in-rack other others os ds both,
@@ -77,7 +77,7 @@ turns-recovered : (s : Setup) → setup_refusal s ≡ 0 → (t : ℕ) → is_num
     → (foreign : List Offer) → All (λ o. o.pack ≡ s.pack → ⊥) foreign
     → (os : List Offer) → Turns (offers s.pack (rows_of s.n s.k (D.leaves i b))) foreign os
     → (cs : List Call) → offered cs ≡ os
-    → close_of (after (begun s) cs) t ≡ Done (index_in t i) (space_of s.n s.k (D.leaves i b))
+    → close_of (after (begun s) cs) t ≡ Ok (index_in t i, space_of s.n s.k (D.leaves i b))
 turns-recovered s settings t known i h b l foreign apart os turns cs given =
     let rows = rows_of s.n s.k ((drawing s.q s.n s.k t).leaves i b) in
     drawn-rows-recovered s.q s.n s.k t settings known i h b l s.pack cs
@@ -95,8 +95,8 @@ pub both-recovered : (s other : Setup) → setup_refusal s ≡ 0 → setup_refus
     → Turns (offers s.pack (rows_of s.n s.k (D.leaves i b)))
     (offers other.pack (rows_of other.n other.k (E.leaves j c))) os
     → (cs ds : List Call) → offered cs ≡ os → offered ds ≡ os
-    → (close_of (after (begun s) cs) t ≡ Done (index_in t i) (space_of s.n s.k (D.leaves i b)))
-    × (close_of (after (begun other) ds) u ≡ Done (index_in u j) (space_of other.n other.k (E.leaves j c)))
+    → (close_of (after (begun s) cs) t ≡ Ok (index_in t i, space_of s.n s.k (D.leaves i b)))
+    × (close_of (after (begun other) ds) u ≡ Ok (index_in u j, space_of other.n other.k (E.leaves j c)))
 both-recovered s other settings others apart t u known knows i j h g b c l m os turns cs ds given both =
     let mine = rows_of s.n s.k ((drawing s.q s.n s.k t).leaves i b) in
     let theirs = rows_of other.n other.k ((drawing other.q other.n other.k u).leaves j c) in (
@@ -128,8 +128,8 @@ pub order-8 :
     × ((r : Receiver) → length r.entries ≡ 256 → (pack : ℕ) (row : List ℕ) (t : Taken) → TakenBy r (offer pack row) t
     → ((take_number t.answer ≡ 14) ↔ (Reachable r → ⊥))
     × ((take_number t.answer ≡ 17) ↔ (Reachable r × (pack ≡ r.pack → ⊥)))
-    × (Reachable r → pack ≡ r.pack → (length row ≡ r.n → ⊥) → t.answer ≡ Refused 4)
-    × (Reachable r → pack ≡ r.pack → length row ≡ r.n → (Row r.q r.n row → ⊥) → t.answer ≡ Refused 6)
+    × (Reachable r → pack ≡ r.pack → (length row ≡ r.n → ⊥) → t.answer ≡ Err Length)
+    × (Reachable r → pack ≡ r.pack → length row ≡ r.n → (Row r.q r.n row → ⊥) → t.answer ≡ Err Entry)
     × (Reachable r → pack ≡ r.pack → Row r.q r.n row → take_number t.answer ≡ 0)
     × ((take_number t.answer ≡ 0 → ⊥) → t.receiver ≡ r))
     -- In a full rack the rows of two packs arrive by turns," (Let two receivers have different packs, each accepted settings of its own,
@@ -140,7 +140,7 @@ pub order-8 :
     → (accepted (begun s) cs ≡ fitting s os)
     × (accepted (begun other) ds ≡ fitting other os)
     × ((o : Offer) (t u : Taken) → TakenBy (after (begun s) cs) o t → TakenBy (after (begun other) ds) o u
-    → (take_number t.answer ≡ 0 → u.answer ≡ Refused 17) × (take_number u.answer ≡ 0 → t.answer ≡ Refused 17))
+    → (take_number t.answer ≡ 0 → u.answer ≡ Err Pack) × (take_number u.answer ≡ 0 → t.answer ≡ Err Pack))
     -- "In the promise about mixed rows, a row offered for another pack is one of the refused." (Where the rows that fit are mixed from one
     -- drawn matrix, each closes as demand 3 says, whatever came for the other.)
     × ((t : ℕ) → is_numbering t ≡ true → let D = drawing s.q s.n s.k t in
@@ -159,8 +159,8 @@ pub order-8 :
     (i j : ℕ) → i < D.count → j < E.count → (b c : List ℕ) → length b ≡ s.k * s.n → length c ≡ other.k * other.n
     → Turns (offers s.pack (rows_of s.n s.k (D.leaves i b)))
     (offers other.pack (rows_of other.n other.k (E.leaves j c))) os
-    → (close_of (after (begun s) cs) t ≡ Done (index_in t i) (space_of s.n s.k (D.leaves i b)))
-    × (close_of (after (begun other) ds) u ≡ Done (index_in u j) (space_of other.n other.k (E.leaves j c)))))
+    → (close_of (after (begun s) cs) t ≡ Ok (index_in t i, space_of s.n s.k (D.leaves i b)))
+    × (close_of (after (begun other) ds) u ≡ Ok (index_in u j, space_of other.n other.k (E.leaves j c)))))
 unfolding start_of
 order-8 = (
   after-pack,
@@ -178,8 +178,10 @@ order-8 = (
       let number = number_of r size o by in (
         (λ e. (forged-exactly r size o).0 (sym number ∙ e), λ h. number ∙ (forged-exactly r size o).1 h),
         (λ e. (foreign-exactly r size o).0 (sym number ∙ e), λ x. number ∙ (foreign-exactly r size o).1 x),
-        λ reached p l. refused-by r size o by (take_long r o (formed r size reached) p l) (λ e. omega (arith, e)),
-        λ reached p l h. refused-by r size o by (take-large r o (formed r size reached) p l h) (λ e. omega (arith, e)),
+        λ reached p l.
+            refused-by r size o by (take_long r o (formed r size reached) p l) (λ e. omega (arith, e)) ∙ ap Err (named-number Length),
+        λ reached p l h.
+            refused-by r size o by (take-large r o (formed r size reached) p l h) (λ e. omega (arith, e)) ∙ ap Err (named-number Entry),
         λ reached p h. number ∙ take_row r o (formed r size reached) p h,
         λ z. (refused-leaves r size o by (λ e. z (number ∙ e))).1,
       ),

@@ -2,7 +2,7 @@
 -- fields alone, and uses each of them; a reader may believe either.
 --   demand-3-flat == "Suppose settings are accepted and have N spaces. Then, in either numbering, .."
 -- Assumes nothing.
-use Rattle.std.specs.Prelude.{◌≡◌, refl, true, List, ◌↔◌, ℕ, ◌*◌, ◌<◌, ◌≤◌, length}
+use Rattle.std.specs.Prelude.{◌≡◌, refl, true, List, ◌↔◌, ℕ, ◌*◌, ◌<◌, ◌≤◌, length, Ok}
 use Rattle.counts.specs.Gaussian.{gaussian}
 use Rattle.settings.specs.Settings.{settings_refusal}
 use Rattle.matrix.specs.Matrix.{Reduced}
@@ -11,7 +11,6 @@ use Rattle.linear.specs.Eliminate.{join}
 use Rattle.numbering.specs.Numbering.{is_numbering, index_in}
 use Rattle.drawing.specs.Drawing.{drawing}
 use Rattle.receive.specs.Receive.{receive_of}
-use Rattle.receive.specs.declared.Received.TheVariants.{Done}
 use Rattle.receiver.specs.Receiver.{setup, close_of}
 use Rattle.pandrwyg.specs.Exported.{answer_size, answer_bytes, exported_number, exported_bytes}
 use Rattle.promise_recovery.specs.Calls.{Call, begun, after, accepted, offered, fitting, Unforged}
@@ -53,7 +52,7 @@ pub demand-3-flat :
     -- closing after it, in the draw's numbering, gives back the drawn index, unrefused, exactly when the accepted rows span k dimensions;
     × (tells (close_of (after (begun s) cs) t) 0 i ↔ HasDimension q n (accepted (begun s) cs) k)
     × ((v : ℕ) → HasVector q n (accepted (begun s) cs) k v
-    → close_of (after (begun s) cs) t ≡ Done (index_in t i) (record { dimension = k; vector = v }))
+    → close_of (after (begun s) cs) t ≡ Ok (index_in t i, record { dimension = k; vector = v }))
     -- if fewer, it refuses with 8
     × ((d : ℕ) → HasDimension q n (accepted (begun s) cs) d → d < k → tells (close_of (after (begun s) cs) t) 8 0)
     -- and their true dimension. (It tells the true dimension either way, and with it the true identifying vector.)
@@ -65,7 +64,7 @@ pub demand-3-flat :
     × ((d : ℕ) → HasDimension q n rows d → d ≤ k)
     × (tells (receive_of q n k t (length rows) (join rows)) 0 i ↔ HasDimension q n rows k)
     × ((v : ℕ) → HasVector q n rows k v
-    → receive_of q n k t (length rows) (join rows) ≡ Done (index_in t i) (record { dimension = k; vector = v }))
+    → receive_of q n k t (length rows) (join rows) ≡ Ok (index_in t i, record { dimension = k; vector = v }))
     × ((d : ℕ) → HasDimension q n rows d → d < k → tells (receive_of q n k t (length rows) (join rows)) 8 0)
     × ((d v : ℕ) → HasVector q n rows d v → tells_space (receive_of q n k t (length rows) (join rows)) d v)
     -- (And so do the number that its C form returns and the bytes that it leaves.)

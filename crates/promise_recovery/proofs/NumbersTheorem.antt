@@ -2,7 +2,7 @@
 --   demand-2           == Numbers holds for all settings and numberings that are accepted
 --   demand-2-flat      == the same without a record, under the user's words
 -- Assumes nothing.
-use Rattle.std.specs.Prelude.{◌≡◌, refl, true, List, ◌↔◌, ℕ, ◌*◌, ◌≤◌, ◌<◌, length}
+use Rattle.std.specs.Prelude.{◌≡◌, refl, true, List, ◌↔◌, ℕ, ◌*◌, ◌≤◌, ◌<◌, length, Ok}
 use Rattle.std.proofs.Common.{ap, ap₂, sym, ◌∙◌}
 use Rattle.counts.specs.Gaussian.{gaussian}
 use Rattle.settings.specs.Settings.{settings_refusal}
@@ -15,7 +15,6 @@ use Rattle.numbering.specs.Laws.Either.{Orderly, either}
 use Rattle.drawing.specs.Drawing.{drawing}
 use Rattle.drawing.specs.Laws.Draws.{draws}
 use Rattle.number.specs.Number.{number_of}
-use Rattle.number.specs.declared.Numbered.TheVariants.{Done}
 use Rattle.number.proofs.NumberAccepted.{reduced-numbered}
 use Rattle.convert.specs.Convert.{convert_of}
 use Rattle.convert.specs.Laws.ConvertAccepted.{convert-unrefused, convert-done}
@@ -34,15 +33,15 @@ module _ (q n k : ℕ) (settings : settings_refusal q n k ≡ 0) where
   orderly : (t : ℕ) → Orderly (numbering_of t) q n k
   orderly t = either q n k t settings
 
-  numbers : (t : ℕ) → is_numbering t ≡ true → (m : List ℕ) → Reduced q n k m → number_of q n k t m ≡ Done (index_in t (index_of q n k t m))
+  numbers : (t : ℕ) → is_numbering t ≡ true → (m : List ℕ) → Reduced q n k m → number_of q n k t m ≡ Ok (index_in t (index_of q n k t m))
   numbers t known m R = reduced-numbered q n k t m (unrefused q n k t settings known) R
 
   converts : (t to : ℕ) → is_numbering t ≡ true → is_numbering to ≡ true → (m : List ℕ) → Reduced q n k m
-      → convert_of q n k t to (index_of q n k t m) ≡ Done (index_in to (index_of q n k to m))
+      → convert_of q n k t to (index_of q n k t m) ≡ Ok (index_in to (index_of q n k to m))
   converts t to known other m R =
       convert-done q n k t to (index_of q n k t m)
       (convert-unrefused q n k t to (index_of q n k t m) (unrefused q n k t settings known) other ((orderly t).index_below m R))
-      ∙ ap (λ x. Done (index_in to (index_of q n k to x))) ((orderly t).drawn-of-index m R)
+      ∙ ap (λ x. Ok (index_in to (index_of q n k to x))) ((orderly t).drawn-of-index m R)
 
   -- the one reduced matrix with the span of rows
   matrix-of : (rows : List (List ℕ)) → All (Row q n) rows → (d : ℕ) (m : List ℕ)
@@ -69,7 +68,7 @@ module _ (q n k : ℕ) (settings : settings_refusal q n k ≡ 0) where
             λ i h b l.
             ap (number_of q n k t) (sym ((draws q n k t settings known).given i h b l))
             ∙ numbers t known (drawn q n k t i) ((orderly t).drawn-reduced i h)
-            ∙ ap (λ x. Done (index_in t x)) ((orderly t).index-of-drawn i h);
+            ∙ ap (λ x. Ok (index_in t x)) ((orderly t).index-of-drawn i h);
         converted = λ to other m R. converts t to known other m R;
         one =
             λ rows h.
@@ -89,13 +88,13 @@ module _ (q n k : ℕ) (settings : settings_refusal q n k ≡ 0) where
 pub demand-2-flat :
     (q n k t : ℕ) → settings_refusal q n k ≡ 0 → is_numbering t ≡ true →
     -- "A reduced matrix gets the extended or Ferrers index that Silberstein and Etzion define,
-    ((m : List ℕ) → Reduced q n k m → number_of q n k t m ≡ Done (index_in t (index_of q n k t m)))
+    ((m : List ℕ) → Reduced q n k m → number_of q n k t m ≡ Ok (index_in t (index_of q n k t m)))
     -- and an index below the count gets the matrix with that index.
     × ((m : List ℕ) → Reduced q n k m → (b : List ℕ) → length b ≡ k * n → (drawing q n k t).leaves (index_of q n k t m) b ≡ m)
-    × ((i : ℕ) → i < gaussian q n k → (b : List ℕ) → length b ≡ k * n → number_of q n k t ((drawing q n k t).leaves i b) ≡ Done (index_in t i))
+    × ((i : ℕ) → i < gaussian q n k → (b : List ℕ) → length b ≡ k * n → number_of q n k t ((drawing q n k t).leaves i b) ≡ Ok (index_in t i))
     -- (So an index is converted to that of its matrix in the other numbering.)
     × ((to : ℕ) → is_numbering to ≡ true → (m : List ℕ) → Reduced q n k m
-    → convert_of q n k t to (index_of q n k t m) ≡ Done (index_in to (index_of q n k to m)))
+    → convert_of q n k t to (index_of q n k t m) ≡ Ok (index_in to (index_of q n k to m)))
     -- Received rows are numbered by the one reduced matrix that spans the same space." (There is one, and only one:)
     × ((rows : List (List ℕ)) → All (Row q n) rows
     → (d : ℕ) × (m : List ℕ) × Reduced q n d m × SameSpan q n (rows_of n d m) rows

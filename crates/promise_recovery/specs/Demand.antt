@@ -23,17 +23,15 @@
 --                           when Take names no refusal for it, so here when it is n bytes, each below q." Order 8: "In the promise about
 --                           mixed rows, a row offered for another pack is one of the refused."
 -- Assumes nothing.
-use Rattle.std.specs.Prelude.{◌≡◌, ◌↔◌, List, [], ◌∷◌, ℕ, ◌+◌, ◌*◌, ◌<◌, ◌≤◌, length, get_or, take, drop}
+use Rattle.std.specs.Prelude.{◌≡◌, ◌↔◌, List, [], ◌∷◌, ℕ, ◌+◌, ◌*◌, ◌<◌, ◌≤◌, length, get_or, take, drop, Ok}
 use Rattle.matrix.specs.Matrix.{Reduced}
 use Rattle.linear.specs.Span.{All, Mixed, rows_of, HasDimension, HasVector}
 use Rattle.linear.specs.Eliminate.{join}
 use Rattle.numbering.specs.Numbering.{index_in}
 use Rattle.drawing.specs.Drawing.{Drawing}
 use Rattle.reduce.specs.Reduce.{most_rows}
-use Rattle.receive.specs.Answer.{received_number, received_index, received_dimension, received_vector}
+use Rattle.receive.specs.Answer.{Received, received_number, received_index, received_dimension, received_vector}
 use Rattle.receive.specs.Receive.{receive_of}
-use Rattle.receive.specs.declared.Received.{Received}
-use Rattle.receive.specs.declared.Received.TheVariants.{Done}
 use Rattle.receiver.specs.Receiver.{Setup, close_of}
 use Rattle.pandrwyg.specs.Exported.{answer_size, answer_bytes, exported_number, exported_bytes}
 use Rattle.promise_recovery.specs.Calls.{Call, begun, after, accepted, offered, fitting, Unforged}
@@ -78,12 +76,12 @@ pub record Answers (q n k i : ℕ) (rows : List (List ℕ)) (answer : Answer) : 
 pub record Recovery (s : Setup) (t i : ℕ) (cs : List Call) : Type 0 where
   pub answers : Answers s.q s.n s.k i (accepted (begun s) cs) (told (close_of (after (begun s) cs) t))
   pub typed : (v : ℕ) → HasVector s.q s.n (accepted (begun s) cs) s.k v
-      → close_of (after (begun s) cs) t ≡ Done (index_in t i) (record { dimension = s.k; vector = v })
+      → close_of (after (begun s) cs) t ≡ Ok (index_in t i, record { dimension = s.k; vector = v })
 
 pub record Reception (q n k t i : ℕ) (rows : List (List ℕ)) : Type 0 where
   pub answers : Answers q n k i rows (told (receive_of q n k t (length rows) (join rows)))
   pub typed : (v : ℕ) → HasVector q n rows k v
-      → receive_of q n k t (length rows) (join rows) ≡ Done (index_in t i) (record { dimension = k; vector = v })
+      → receive_of q n k t (length rows) (join rows) ≡ Ok (index_in t i, record { dimension = k; vector = v })
   pub exported : (b : List ℕ) → length b ≡ answer_size
       → Answers q n k i rows
       (read (exported_number q n k t (length rows) (join rows) answer_size) (exported_bytes q n k t (length rows) (join rows) b))

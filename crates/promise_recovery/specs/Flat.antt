@@ -1,8 +1,7 @@
 -- What answers tell, for the flat statement of demand 3 in proofs/FlatTheorem.
 -- Assumes nothing.
 use Rattle.std.specs.Prelude.{◌≡◌, List, ℕ, get_or, take, drop}
-use Rattle.receive.specs.Answer.{received_number, received_index, received_dimension, received_vector}
-use Rattle.receive.specs.declared.Received.{Received}
+use Rattle.receive.specs.Answer.{Received, received_number, received_index, received_dimension, received_vector}
 use Rattle.promise_recovery.specs.Demand.{little_endian}
 
 -- the refusal number and the index that an answer of Receive or Close tells

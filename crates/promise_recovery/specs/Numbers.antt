@@ -7,7 +7,7 @@
 --                         `space_answer` for it
 -- It is proved in proofs/NumbersTheorem.
 -- Assumes nothing.
-use Rattle.std.specs.Prelude.{◌≡◌, true, List, ℕ, ◌≤◌, ◌<◌, length}
+use Rattle.std.specs.Prelude.{◌≡◌, true, List, ℕ, ◌≤◌, ◌<◌, length, Ok}
 use Rattle.counts.specs.Gaussian.{gaussian}
 use Rattle.matrix.specs.Matrix.{Reduced}
 use Rattle.linear.specs.Span.{All, Row, SameSpan, rows_of}
@@ -15,7 +15,6 @@ use Rattle.linear.specs.Eliminate.{join}
 use Rattle.numbering.specs.Numbering.{is_numbering, index_of, index_in}
 use Rattle.drawing.specs.Drawing.{drawing}
 use Rattle.number.specs.Number.{number_of}
-use Rattle.number.specs.declared.Numbered.TheVariants.{Done}
 use Rattle.convert.specs.Convert.{convert_of}
 use Rattle.reduce.specs.Reduce.{most_rows}
 use Rattle.receive.specs.Answer.{space_answer}
@@ -26,12 +25,12 @@ use Rattle.promise_recovery.specs.Calls.{Call, begun, after, accepted}
 use Rattle.promise_recovery.specs.Demand.{Buffer}
 
 pub record Numbers (q n k t : ℕ) : Type 0 where
-  pub by-formula : (m : List ℕ) → Reduced q n k m → number_of q n k t m ≡ Done (index_in t (index_of q n k t m))
+  pub by-formula : (m : List ℕ) → Reduced q n k m → number_of q n k t m ≡ Ok (index_in t (index_of q n k t m))
   pub drawn-back : (m : List ℕ) → Reduced q n k m → (b : List ℕ) → Buffer n k b → (drawing q n k t).leaves (index_of q n k t m) b ≡ m
   pub numbered-back : (i : ℕ) → i < gaussian q n k → (b : List ℕ) → Buffer n k b
-      → number_of q n k t ((drawing q n k t).leaves i b) ≡ Done (index_in t i)
+      → number_of q n k t ((drawing q n k t).leaves i b) ≡ Ok (index_in t i)
   pub converted : (to : ℕ) → is_numbering to ≡ true → (m : List ℕ) → Reduced q n k m
-      → convert_of q n k t to (index_of q n k t m) ≡ Done (index_in to (index_of q n k to m))
+      → convert_of q n k t to (index_of q n k t m) ≡ Ok (index_in to (index_of q n k to m))
   pub one : (rows : List (List ℕ)) → All (Row q n) rows
       → (d : ℕ) × (m : List ℕ) × Reduced q n d m × SameSpan q n (rows_of n d m) rows
       × ((e : ℕ) (w : List ℕ) → Reduced q n e w → SameSpan q n (rows_of n e w) rows → (e ≡ d) × (w ≡ m))

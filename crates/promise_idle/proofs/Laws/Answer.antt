@@ -2,13 +2,16 @@
 --   answered        == Take of the receiver that holds `rows` answers as it should
 -- Assumes nothing.
 use Rattle.std.proofs.Math.Path.{◌≡◌, ap}
-use Rattle.std.specs.Prelude.{refl, Bool, true, ◌&&◌, List, [], ◌∷◌, ◌++◌, ◌↔◌, ℕ, suc, ◌<◌, eqb, ltb, replicate}
+use Rattle.std.specs.Prelude.{refl, Bool, true, ◌&&◌, List, [], ◌∷◌, ◌++◌, ◌↔◌, ℕ, suc, ◌<◌, eqb, ltb, replicate, Result, Ok, Err}
 use Rattle.std.proofs.Common.{sym, ◌∙◌, subst, arith, eq-eqb, lt-ltb, ltb-true}
 use Rattle.std.proofs.Math.Bool.{false}
 use Rattle.basics.specs.Choice.{pick}
 use Rattle.basics.specs.Laws.Choice.{is_true, holds}
 use Rattle.basics.specs.Laws.Test.{and_right}
-use Rattle.refusal.specs.Laws.First.{done}
+use Rattle.refusal.specs.Refusal.{number, named}
+use Rattle.refusal.specs.Laws.First.{done, number-positive, named-number}
+use Rattle.refusal.specs.declared.Refusal.{Refusal}
+use Rattle.refusal.specs.declared.Refusal.TheVariants.{Length, Entry, Pack}
 use Rattle.field.specs.FieldLaws.{Laws}
 use Rattle.matrix.specs.Laws.Tests.{below_one, zeros-below}
 use Rattle.linear.specs.Span.{All, Row, InSpan}
@@ -21,32 +24,33 @@ use Rattle.receiver.specs.Laws.Held.{settings-laws, holding-held}
 use Rattle.receiver.specs.Laws.TakeAccepted.{take-accepted, accepted-row, take-foreign, take_long, take-large, foreign-only}
 use Rattle.receiver.specs.declared.Receiver.{Receiver}
 use Rattle.receiver.specs.declared.Taken.{Taken}
-use Rattle.receiver.specs.declared.TakeAnswer.{TakeAnswer}
-use Rattle.receiver.specs.declared.TakeAnswer.TheVariants.{Raised, Held, Idle, Refused}
+use Rattle.receiver.specs.declared.Effect.{Effect}
+use Rattle.receiver.specs.declared.Effect.TheVariants.{Raised, Held, Idle}
 use Rattle.promise_recovery.proofs.Laws.HoldRows.{well-formed-holding, take-fits, take-tells, take-taken, take-kept}
 use Rattle.promise_idle.specs.Idle.{zero_row, Answered}
 
 -- the answers by their tests
-raised-only : (a : TakeAnswer) → take_raised a ≡ true → a ≡ Raised
-raised-only Raised e = refl
-raised-only Held e = absurd (holds false e)
-raised-only Idle e = absurd (holds false e)
-raised-only (Refused r) e = absurd (holds false e)
+raised-only : (a : Result Effect Refusal) → take_raised a ≡ true → a ≡ Ok Raised
+raised-only (Ok Raised) e = refl
+raised-only (Ok Held) e = absurd (holds false e)
+raised-only (Ok Idle) e = absurd (holds false e)
+raised-only (Err r) e = absurd (holds false e)
 
-unraised : (a : TakeAnswer) → (a ≡ Raised → ⊥) → take_raised a ≡ false
-unraised Raised e = absurd (e refl)
-unraised Held e = refl
-unraised Idle e = refl
-unraised (Refused r) e = refl
+unraised : (a : Result Effect Refusal) → (a ≡ Ok Raised → ⊥) → take_raised a ≡ false
+unraised (Ok Raised) e = absurd (e refl)
+unraised (Ok Held) e = refl
+unraised (Ok Idle) e = refl
+unraised (Err r) e = refl
 
-idle-only : (a : TakeAnswer) → take_idle a ≡ true → a ≡ Idle
-idle-only Raised e = absurd (holds false e)
-idle-only Held e = absurd (holds false e)
-idle-only Idle e = refl
-idle-only (Refused r) e = absurd (holds false e)
+idle-only : (a : Result Effect Refusal) → take_idle a ≡ true → a ≡ Ok Idle
+idle-only (Ok Raised) e = absurd (holds false e)
+idle-only (Ok Held) e = absurd (holds false e)
+idle-only (Ok Idle) e = refl
+idle-only (Err r) e = absurd (holds false e)
 
 -- of a row that is not refused, what is neither raised nor idle is held
-held-only : (zero grew : Bool) (a : TakeAnswer) → a ≡ pick zero Idle (pick grew Raised Held) → (a ≡ Raised → ⊥) → (a ≡ Idle → ⊥) → a ≡ Held
+held-only : (zero grew : Bool) (a : Result Effect Refusal) → a ≡ Ok (pick zero Idle (pick grew Raised Held))
+    → (a ≡ Ok Raised → ⊥) → (a ≡ Ok Idle → ⊥) → a ≡ Ok Held
 held-only true grew a e raised idle = absurd (idle e)
 held-only false true a e raised idle = absurd (raised e)
 held-only false false a e raised idle = e
@@ -88,13 +92,13 @@ module _ (s : Setup) (settings : setup_refusal s ≡ 0) (rows : List (List ℕ))
       ap (λ x. x.dimension) (take-taken s settings rows h o (take-fits s settings rows h o own hr)).0
       ∙ dimension-raised q law n rows h row hr outside
 
-  raised-grows : t.answer ≡ Raised → r.dimension < t.receiver.dimension
+  raised-grows : t.answer ≡ Ok Raised → r.dimension < t.receiver.dimension
   raised-grows e = ltb-true r.dimension t.receiver.dimension (sym tells.raised ∙ ap take_raised e)
 
-  grows-raised : r.dimension < t.receiver.dimension → t.answer ≡ Raised
+  grows-raised : r.dimension < t.receiver.dimension → t.answer ≡ Ok Raised
   grows-raised g = raised-only t.answer (tells.raised ∙ lt-ltb r.dimension t.receiver.dimension g)
 
-  raised : (t.answer ≡ Raised) ↔ ((o.pack ≡ s.pack) × Row q n row × (InSpan q n rows row → ⊥))
+  raised : (t.answer ≡ Ok Raised) ↔ ((o.pack ≡ s.pack) × Row q n row × (InSpan q n rows row → ⊥))
   raised = (
     λ e.
         let z : take_number t.answer ≡ 0 = ap take_number e in
@@ -103,7 +107,7 @@ module _ (s : Setup) (settings : setup_refusal s ≡ 0) (rows : List (List ℕ))
     λ x. let more = grown-dimension x.0 x.1 x.2 in grows-raised (omega (arith, more)),
   )
 
-  idle : (t.answer ≡ Idle) ↔ ((o.pack ≡ s.pack) × (row ≡ zero_row n))
+  idle : (t.answer ≡ Ok Idle) ↔ ((o.pack ≡ s.pack) × (row ≡ zero_row n))
   idle = (
     λ e.
         let both = holds _ (sym tells.idle ∙ ap take_idle e) in
@@ -116,7 +120,7 @@ module _ (s : Setup) (settings : setup_refusal s ≡ 0) (rows : List (List ℕ))
         idle-only t.answer (tells.idle ∙ ap (λ b. b && is_zero row) (eq-eqb (take_refusal r o) 0 z) ∙ zero),
   )
 
-  held : (t.answer ≡ Held) ↔ ((o.pack ≡ s.pack) × (row ≡ zero_row n → ⊥) × InSpan q n rows row)
+  held : (t.answer ≡ Ok Held) ↔ ((o.pack ≡ s.pack) × (row ≡ zero_row n → ⊥) × InSpan q n rows row)
   unfolding take_of taken_in
   held = (
     λ e.
@@ -129,26 +133,27 @@ module _ (s : Setup) (settings : setup_refusal s ≡ 0) (rows : List (List ℕ))
         (λ e. x.1 (idle.0 e).1),
   )
     where
-      apart-idle : ◌≡◌ {A = TakeAnswer} Held Idle → ⊥
+      apart-idle : ◌≡◌ {A = Result Effect Refusal} (Ok Held) (Ok Idle) → ⊥
       apart-idle e = holds false (ap take_idle e)
 
-      apart-raised : ◌≡◌ {A = TakeAnswer} Held Raised → ⊥
+      apart-raised : ◌≡◌ {A = Result Effect Refusal} (Ok Held) (Ok Raised) → ⊥
       apart-raised e = holds false (ap take_raised e)
 
-      inside : t.answer ≡ Held → Dec (InSpan q n rows row) → InSpan q n rows row
+      inside : t.answer ≡ Ok Held → Dec (InSpan q n rows row) → InSpan q n rows row
       inside e (yes i) = i
       inside e (no outside) = let a = accepted (ap take_number e) in absurd (apart-raised (sym e ∙ raised.1 (a.0, a.1, outside)))
 
-  refused : {number : ℕ} → take_refusal r o ≡ suc number → t.answer ≡ Refused (suc number)
-  refused e =
-      ap (λ (x : Taken). x.answer) (take-kept s settings rows h o (λ z. omega (arith, e, z))) ∙ ap Refused e
+  refused : (refusal : Refusal) → take_refusal r o ≡ number refusal → t.answer ≡ Err refusal
+  refused refusal e =
+      ap (λ (x : Taken). x.answer) (take-kept s settings rows h o (λ z. number-positive refusal (sym e ∙ z)))
+      ∙ ap (λ x. Err (named x)) e ∙ ap Err (named-number refusal)
 
   formed : well_formed r ≡ true
   formed = well-formed-holding s settings rows h
 
-  foreign : (t.answer ≡ Refused 17) ↔ (o.pack ≡ s.pack → ⊥)
+  foreign : (t.answer ≡ Err Pack) ↔ (o.pack ≡ s.pack → ⊥)
   unfolding holding
-  foreign = (λ e. foreign-only r o formed (sym tells.number ∙ ap take_number e), λ p. refused (take-foreign r o formed p))
+  foreign = (λ e. foreign-only r o formed (sym tells.number ∙ ap take_number e), λ p. refused Pack (take-foreign r o formed p))
 
   pub answered : Answered s rows (holding s rows) o (take_of (holding s rows) o)
   unfolding holding
@@ -158,8 +163,8 @@ module _ (s : Setup) (settings : setup_refusal s ≡ 0) (rows : List (List ℕ))
         raised = raised;
         held = held;
         idle = idle;
-        long = λ own l. refused (take_long r o formed own l);
-        large = λ own l outside. refused (take-large r o formed own l outside);
+        long = λ own l. refused Length (take_long r o formed own l);
+        large = λ own l outside. refused Entry (take-large r o formed own l outside);
         grown = λ e. let x = raised.0 e in grown-dimension x.0 x.1 x.2;
         untouched = λ e. tells.untouched (unraised t.answer e);
       }

@@ -4,7 +4,7 @@
 --   unharmed        == from any receiver on, a list of calls with zero rows put in leaves what the list leaves
 --   put-in-fitting  == what holds of the zero row and of the rows that fit holds with zero rows put in
 -- Assumes nothing.
-use Rattle.std.specs.Prelude.{◌≡◌, refl, Bool, true, false, ◌&&◌, List, [], ◌∷◌, ◌++◌, ℕ}
+use Rattle.std.specs.Prelude.{◌≡◌, refl, Bool, true, false, ◌&&◌, List, [], ◌∷◌, ◌++◌, ℕ, Result, Ok, Err}
 use Rattle.std.proofs.Math.Path.{ap}
 use Rattle.std.proofs.Common.{sym, ◌∙◌, eq-eqb}
 use Rattle.std.proofs.Math.Decide.{ℕ_discrete}
@@ -12,6 +12,7 @@ use Rattle.std.proofs.Math.ListN.{length}
 use Rattle.basics.specs.Choice.{pick}
 use Rattle.basics.specs.Laws.Choice.{holds}
 use Rattle.refusal.specs.Laws.First.{kept, done}
+use Rattle.refusal.specs.declared.Refusal.{Refusal}
 use Rattle.matrix.specs.Laws.Tests.{zeros-below}
 use Rattle.linear.specs.Span.{All, none, more}
 use Rattle.linear.specs.Laws.Every.{all_append, all_head, all_tail}
@@ -23,22 +24,22 @@ use Rattle.receiver.specs.Laws.TakeAccepted.{take-accepted, accepted-row}
 use Rattle.receiver.proofs.Laws.TakeTold.{take-told}
 use Rattle.receiver.specs.declared.Receiver.{Receiver}
 use Rattle.receiver.specs.declared.Taken.{Taken}
-use Rattle.receiver.specs.declared.TakeAnswer.{TakeAnswer}
-use Rattle.receiver.specs.declared.TakeAnswer.TheVariants.{Raised, Held, Idle, Refused}
+use Rattle.receiver.specs.declared.Effect.{Effect}
+use Rattle.receiver.specs.declared.Effect.TheVariants.{Raised, Held, Idle}
 use Rattle.promise_recovery.specs.Calls.{Call, after, take_value, take_lent, close, offered, fits, fitting}
 use Rattle.promise_idle.specs.Idle.{zero_row, zeros, WithIdle, none as nothing, call, idle_value, idle_lent}
 
-idle-unraised : (a : TakeAnswer) → take_idle a ≡ true → take_raised a ≡ false
-idle-unraised Raised e = absurd (holds false e)
-idle-unraised Held e = refl
-idle-unraised Idle e = refl
-idle-unraised (Refused r) e = refl
+idle-unraised : (a : Result Effect Refusal) → take_idle a ≡ true → take_raised a ≡ false
+idle-unraised (Ok Raised) e = absurd (holds false e)
+idle-unraised (Ok Held) e = refl
+idle-unraised (Ok Idle) e = refl
+idle-unraised (Err r) e = refl
 
-refused-unraised : (a : TakeAnswer) → (take_number a ≡ 0 → ⊥) → take_raised a ≡ false
-refused-unraised Raised e = absurd (e refl)
-refused-unraised Held e = refl
-refused-unraised Idle e = refl
-refused-unraised (Refused r) e = refl
+refused-unraised : (a : Result Effect Refusal) → (take_number a ≡ 0 → ⊥) → take_raised a ≡ false
+refused-unraised (Ok Raised) e = absurd (e refl)
+refused-unraised (Ok Held) e = refl
+refused-unraised (Ok Idle) e = refl
+refused-unraised (Err r) e = refl
 
 module _ (r : Receiver) (size : length r.entries ≡ 256) where
   pub zero-untouched : (pack n : ℕ) → (take_of r (zeros pack n)).receiver ≡ r

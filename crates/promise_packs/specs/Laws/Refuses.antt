@@ -4,16 +4,16 @@
 --   forged-exactly  == 14 exactly where Start and Take cannot leave the receiver
 --   foreign-exactly == 17 exactly where they can, and the row is offered for another pack
 -- Assumes nothing.
-use Rattle.std.specs.Prelude.{◌≡◌, refl, Bool, true, false, ◌↔◌, ℕ, length}
+use Rattle.std.specs.Prelude.{◌≡◌, refl, Bool, true, false, ◌↔◌, ℕ, length, Err}
 use Rattle.std.proofs.Common.{ap, ◌∙◌, arith}
 use Rattle.std.proofs.Math.Path.{sym}
+use Rattle.refusal.specs.Refusal.{named}
 use Rattle.refusal.specs.Laws.First.{kept}
 use Rattle.receiver.specs.Receiver.{Offer, well_formed, take_refusal, take_of, taken_as, take_number}
 use Rattle.receiver.specs.Laws.TakeAccepted.{take-forged, take-foreign, foreign-only, unforged}
 use Rattle.receiver.proofs.Laws.TakeTold.{take-told}
 use Rattle.receiver.specs.declared.Receiver.{Receiver}
 use Rattle.receiver.specs.declared.Taken.{Taken}
-use Rattle.receiver.specs.declared.TakeAnswer.TheVariants.{Refused}
 use Rattle.promise_recovery.specs.Calls.{Reachable}
 use Rattle.promise_recovery.proofs.Laws.Reachable.{reachable-exactly-well-formed, forged, formed}
 use Rattle.promise_idle.specs.Idle.{TakenBy, by_value, lent}
@@ -23,18 +23,18 @@ module _ (r : Receiver) (size : length r.entries ≡ 256) (o : Offer) where
   number_of by_value = (take-told r o size (take_of r o) refl).number
   number_of lent = (take-told r o size (take_of r o) refl).number
 
-  value : (take_refusal r o ≡ 0 → ⊥) → take_of r o ≡ taken_as r (Refused (take_refusal r o))
+  value : (take_refusal r o ≡ 0 → ⊥) → take_of r o ≡ taken_as r (Err (named (take_refusal r o)))
   unfolding take_of
   value z = sym (kept (take_refusal r o) _ _ z)
 
   pub refused-leaves : {t : Taken} → TakenBy r o t → (take_refusal r o ≡ 0 → ⊥)
-      → (t.answer ≡ Refused (take_refusal r o)) × (t.receiver ≡ r)
+      → (t.answer ≡ Err (named (take_refusal r o))) × (t.receiver ≡ r)
   refused-leaves by_value z = (ap (λ (x : Taken). x.answer) (value z), ap (λ (x : Taken). x.receiver) (value z))
   refused-leaves lent z = (ap (λ (x : Taken). x.answer) (value z), ap (λ (x : Taken). x.receiver) (value z))
 
   -- the answer by its number, which is not 0
-  pub refused-by : {t : Taken} → TakenBy r o t → {number : ℕ} → take_refusal r o ≡ number → (number ≡ 0 → ⊥) → t.answer ≡ Refused number
-  refused-by by e other = (refused-leaves by (λ z. other (sym e ∙ z))).0 ∙ ap Refused e
+  pub refused-by : {t : Taken} → TakenBy r o t → {number : ℕ} → take_refusal r o ≡ number → (number ≡ 0 → ⊥) → t.answer ≡ Err (named number)
+  refused-by by e other = (refused-leaves by (λ z. other (sym e ∙ z))).0 ∙ ap (λ x. Err (named x)) e
 
   pub forged-exactly : (take_refusal r o ≡ 14) ↔ (Reachable r → ⊥)
   forged-exactly = (λ e reached. unforged r o (formed r size reached) e, λ h. take-forged r o (forged r size h))

@@ -3,7 +3,7 @@
 --                       the accepted rows are these, and no call is refused 14
 --   course           == so it is
 -- Assumes nothing.
-use Rattle.std.specs.Prelude.{◌≡◌, Bool, false, ℕ, eqb, ltb}
+use Rattle.std.specs.Prelude.{◌≡◌, Bool, false, ℕ, eqb, ltb, Ok, Err}
 use Rattle.std.proofs.Math.Path.{refl, ap, sym, subst}
 use Rattle.std.proofs.Common.{◌∙◌, arith, eq-eqb, ne_eqb}
 use Rattle.std.proofs.Math.Bool.{true}
@@ -17,9 +17,9 @@ use Rattle.numbering.specs.Numbering.{is_numbering, index_of, index_in}
 use Rattle.reduce.specs.Reduce.{space_of}
 use Rattle.receive.specs.Answer.{space_answer, received_number}
 use Rattle.receiver.specs.Receiver.{Setup, Offer, setup_refusal, well_formed, holding, take_of, take_number, close_refusal, close_of}
-use Rattle.receiver.specs.Laws.TakeAccepted.{unforged, close-unrefused}
+use Rattle.receiver.specs.Laws.TakeAccepted.{take-known, unforged, close-unrefused, close-known}
 use Rattle.receiver.specs.declared.Taken.{Taken}
-use Rattle.receive.specs.declared.Received.TheVariants.{Done, TooFew, TooMany}
+use Rattle.receive.specs.declared.Unreceived.TheVariants.{TooFew, TooMany}
 use Rattle.promise_recovery.specs.Calls.{Call, take_value, take_lent, close, after, accepted, Unforged, none as nothing, more as further}
 use Rattle.promise_recovery.specs.Calls.{offered, fits, fitting}
 use Rattle.promise_recovery.proofs.Laws.FittingRows.{fits-own, fits-row}
@@ -37,8 +37,8 @@ space-number q n k t d m = cases (ltb d k) (ltb k d)
   where
     cases : (few many : Bool)
         → received_number
-        (pick few (TooFew (space_of n d m))
-        (pick many (TooMany (space_of n d m)) (Done (index_in t (index_of q n k t m)) (space_of n d m))))
+        (pick few (Err (TooFew (space_of n d m)))
+        (pick many (Err (TooMany (space_of n d m))) (Ok (index_in t (index_of q n k t m), space_of n d m))))
         ≡ receiver_refusal
         → ⊥
     cases true many e = omega arith
@@ -61,8 +61,9 @@ module _ (s : Setup) (settings : setup_refusal s ≡ 0) where
           space-number _ _ _ t _ _ (ap received_number (done _ _ _ (close-unrefused (holding s rows) t formed known)) ∙ e)
       cases false unknown e =
           let ten : close_refusal (holding s rows) t ≡ numbering_refusal = test-passed _ _ _ formed ∙ test-refused _ _ _ tt unknown in
-          let z = ap received_number (kept (close_refusal (holding s rows) t) _ _ (λ zero. omega arith)) ∙ e in
-          omega arith
+          let some : close_refusal (holding s rows) t ≡ 0 → ⊥ = λ zero. omega (arith, ten, zero) in
+          let z = sym (close-known (holding s rows) t some) ∙ ap received_number (kept _ _ _ some) ∙ e in
+          omega (arith, ten, z)
 
   -- Take of one row, which hands back t, and the calls after it
   record Step (rows : List (List ℕ)) (o : Offer) (cs : List Call) (t : Taken) : Type 0 where
@@ -125,7 +126,7 @@ module _ (s : Setup) (settings : setup_refusal s ≡ 0) where
       cases false f =
           let z = take-misfits s settings rows h o f in
           let t = take-kept s settings rows h o z in
-          let e = ap (λ x. take_number x.answer) t in
+          let e = ap (λ x. take_number x.answer) t ∙ take-known (holding s rows) o z in
           step-misfits rows o cs _ f (ap (λ x. x.receiver) t) (λ g. z (sym e ∙ g))
           (λ g. unforged (holding s rows) o (well-formed-holding s settings rows h) (sym e ∙ g)) (next rows h)
 

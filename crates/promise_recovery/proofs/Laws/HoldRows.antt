@@ -6,12 +6,13 @@
 --   take-taken     == a row taken in: the receiver then holds it after the others
 --   take-kept      == a row refused: the receiver stays
 -- Assumes nothing.
-use Rattle.std.specs.Prelude.{◌≡◌, refl, true, ℕ, length}
+use Rattle.std.specs.Prelude.{◌≡◌, refl, true, ℕ, length, Err}
 use Rattle.std.proofs.Math.Path.{ap, sym}
 use Rattle.std.proofs.Common.{◌∙◌}
 use Rattle.std.proofs.Math.Bool.{false}
 use mathlib.Core.List.{List, [], ◌∷◌, ◌++◌}
 use Rattle.basics.specs.Laws.Choice.{holds}
+use Rattle.refusal.specs.Refusal.{named}
 use Rattle.refusal.specs.Laws.First.{kept, done}
 use Rattle.field.specs.FieldLaws.{Laws}
 use Rattle.linear.specs.Span.{All, Row}
@@ -28,7 +29,6 @@ use Rattle.receiver.specs.Laws.TakeAccepted.{take-accepted, accepted-row, take_r
 use Rattle.receiver.proofs.Laws.TakeTold.{take-told}
 use Rattle.receiver.specs.declared.Receiver.{Receiver}
 use Rattle.receiver.specs.declared.Taken.{Taken}
-use Rattle.receiver.specs.declared.TakeAnswer.TheVariants.{Refused}
 use Rattle.promise_recovery.specs.Calls.{fits}
 use Rattle.promise_recovery.proofs.Laws.FittingRows.{own-fits}
 
@@ -84,6 +84,6 @@ module _ (s : Setup) (settings : setup_refusal s ≡ 0) (rows : List (List ℕ))
     )
 
     pub take-kept : (take_refusal (holding s rows) o ≡ 0 → ⊥)
-        → take_of (holding s rows) o ≡ taken_as (holding s rows) (Refused (take_refusal (holding s rows) o))
+        → take_of (holding s rows) o ≡ taken_as (holding s rows) (Err (named (take_refusal (holding s rows) o)))
     unfolding take_of
     take-kept z = sym (kept (take_refusal (holding s rows) o) _ _ z)

@@ -24,10 +24,9 @@ use Rattle.numbering.specs.Numbering.{is_numbering, index_of}
 use Rattle.numbering.specs.Laws.Chosen.{unrefused}
 use Rattle.numbering.specs.Laws.Either.{either, typed-value}
 use Rattle.reduce.specs.Reduce.{most_rows}
-use Rattle.receive.specs.Answer.{space_answer, received_number}
+use Rattle.receive.specs.Answer.{Received, space_answer, received_number}
 use Rattle.receive.specs.Receive.{rows_refusal, receive_of}
 use Rattle.receive.proofs.Laws.ReceiveAccepted.{rows-unrefused, receive-unrefused}
-use Rattle.receive.specs.declared.Received.{Received}
 use Rattle.receiver.specs.Receiver.{Setup, setup_refusal, holding, close_of}
 use Rattle.receiver.specs.Laws.Held.{settings-laws, holding-used}
 use Rattle.receiver.specs.Laws.TakeAccepted.{close-unrefused}

@@ -5,7 +5,7 @@
 --   space-whole-or-fewer == one of these is so
 --   vector-fits    == an identifying vector fits two bytes
 -- Assumes nothing.
-use Rattle.std.specs.Prelude.{◌≡◌, refl, List, ◌↔◌, ◌⊎◌, ℕ, ◌^◌, ◌≤◌, ◌<◌}
+use Rattle.std.specs.Prelude.{◌≡◌, refl, List, ◌↔◌, ◌⊎◌, ℕ, ◌^◌, ◌≤◌, ◌<◌, Ok, Err}
 use Rattle.std.proofs.Common.{ap, ap₂, sym, ◌∙◌, inl, inr, arith, pow_mono}
 use Rattle.basics.specs.Laws.Order.{trichotomy}
 use Rattle.field.specs.FieldLaws.{Laws}
@@ -24,7 +24,7 @@ use Rattle.numbering.specs.Laws.Either.{typed-value}
 use Rattle.reduce.specs.Reduce.{space_of}
 use Rattle.receive.specs.Answer.{space_answer, received_number, received_index}
 use Rattle.receive.proofs.Laws.Space.{space-few, space-whole, space-dimension, space-vector}
-use Rattle.receive.specs.declared.Received.TheVariants.{Done, TooFew}
+use Rattle.receive.specs.declared.Unreceived.TheVariants.{TooFew}
 use Rattle.receiver.specs.Laws.Held.{settings-laws}
 use Rattle.promise_recovery.specs.Demand.{told, Answers}
 
@@ -53,18 +53,18 @@ module _ (q n k t : ℕ) (settings : settings_refusal q n k ≡ 0) (m : List ℕ
       let e = (has-vector d v).0 h in ap₂ (λ (x y : ℕ). record { dimension = x; vector = y }) e.0 e.1
 
   pub space-fewer : (d v : ℕ) → HasVector q n rows d v → d < k
-      → space_answer q n k t (dimension q n rows) (reduced_of q n rows) ≡ TooFew (record { dimension = d; vector = v })
+      → space_answer q n k t (dimension q n rows) (reduced_of q n rows) ≡ Err (TooFew (record { dimension = d; vector = v }))
   space-fewer d v h l =
       let e : dimension q n rows ≡ d = ((has-vector d v).0 h).0 in
-      sym (space-few q n k t (dimension q n rows) (reduced_of q n rows) (omega arith)) ∙ ap TooFew (told-space d v h)
+      sym (space-few q n k t (dimension q n rows) (reduced_of q n rows) (omega arith)) ∙ ap (λ x. Err (TooFew x)) (told-space d v h)
 
   pub space-typed : (v : ℕ) → HasVector q n rows k v
       → space_answer q n k t (dimension q n rows) (reduced_of q n rows)
-      ≡ Done (index_in t (index_of q n k t m)) (record { dimension = k; vector = v })
+      ≡ Ok (index_in t (index_of q n k t m), record { dimension = k; vector = v })
   space-typed v h =
       let e : dimension q n rows ≡ k = ((has-vector k v).0 h).0 in
       sym (space-whole q n k t (dimension q n rows) (reduced_of q n rows) (omega arith) (omega arith))
-      ∙ ap₂ Done (ap (λ x. index_in t (index_of q n k t x)) (within.1 e)) (told-space k v h)
+      ∙ ap₂ (λ x y. Ok (x, y)) (ap (λ x. index_in t (index_of q n k t x)) (within.1 e)) (told-space k v h)
 
   pub space-whole-or-fewer : ((v : ℕ) × HasVector q n rows k v) ⊎ ((d v : ℕ) × HasVector q n rows d v × (d < k))
   space-whole-or-fewer = cases (trichotomy (dimension q n rows) k)

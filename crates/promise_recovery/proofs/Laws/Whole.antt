@@ -6,7 +6,7 @@
 --   drawn-rows-taken     == so taking the drawn rows from the top and closing gives the index
 --   drawn-bytes-received == and so does Receive of the drawn bytes
 -- Assumes nothing.
-use Rattle.std.specs.Prelude.{◌≡◌, refl, Bool, true, false, List, [], ◌∷◌, ◌⊎◌, ℕ, ◌≤◌, ◌<◌}
+use Rattle.std.specs.Prelude.{◌≡◌, refl, Bool, true, false, List, [], ◌∷◌, ◌⊎◌, ℕ, ◌≤◌, ◌<◌, Ok}
 use Rattle.std.proofs.Common.{ap, sym, ◌∙◌, subst, inl, inr, arith}
 use Rattle.std.proofs.Math.Path.{ap₂}
 use Rattle.std.proofs.Math.Logic.Iff
@@ -26,7 +26,6 @@ use Rattle.numbering.specs.Numbering.{is_numbering, index_in}
 use Rattle.drawing.specs.Drawing.{drawing}
 use Rattle.reduce.specs.Reduce.{space_of}
 use Rattle.receive.specs.Receive.{receive_of}
-use Rattle.receive.specs.declared.Received.TheVariants.{Done}
 use Rattle.receiver.specs.Receiver.{Setup, Offer, setup, offer, close_of}
 use Rattle.receiver.specs.Laws.Held.{settings-laws}
 use Rattle.promise_recovery.specs.Calls.{Call, begun, take_value, after, accepted, offers, offered, fits, fitting}
@@ -102,7 +101,7 @@ module _ (q n k t : ℕ) (settings : settings_refusal q n k ≡ 0) (known : is_n
     pub drawn-rows-recovered : (cs : List Call)
         → All (λ o. Among o.row (rows_of n k ((drawing q n k t).leaves i b)) ⊎ ((o.pack ≡ pack) × Row q n o.row → ⊥)) (offered cs)
         → All (λ row. Among (offer pack row) (offered cs)) (rows_of n k ((drawing q n k t).leaves i b))
-        → close_of (after (begun s) cs) t ≡ Done (index_in t i) (space_of n k ((drawing q n k t).leaves i b))
+        → close_of (after (begun s) cs) t ≡ Ok (index_in t i, space_of n k ((drawing q n k t).leaves i b))
     unfolding HasVector
     drawn-rows-recovered cs only every =
         ((demand-3 s t settings known).recovery i h b sized cs
@@ -124,7 +123,7 @@ module _ (q n k t : ℕ) (settings : settings_refusal q n k ≡ 0) (known : is_n
         same = span_same q law n drawn_rows (accepted (begun s) cs) valid (accepted-rows s settings cs) outside inside
 
     pub drawn-rows-taken : close_of (after (begun s) (take_all (offers pack (rows_of n k ((drawing q n k t).leaves i b))))) t
-        ≡ Done (index_in t i) (space_of n k ((drawing q n k t).leaves i b))
+        ≡ Ok (index_in t i, space_of n k ((drawing q n k t).leaves i b))
     drawn-rows-taken =
         let given = offered-all (offers pack drawn_rows) in
         drawn-rows-recovered (take_all (offers pack drawn_rows))
@@ -132,7 +131,7 @@ module _ (q n k t : ℕ) (settings : settings_refusal q n k ≡ 0) (known : is_n
         (subst (λ os. All (λ row. Among (offer pack row) os) drawn_rows) (sym given)
         (all_map (λ v a. among-offers pack a) (each-among drawn_rows)))
 
-  pub drawn-bytes-received : receive_of q n k t k ((drawing q n k t).leaves i b) ≡ Done (index_in t i) (space_of n k ((drawing q n k t).leaves i b))
+  pub drawn-bytes-received : receive_of q n k t k ((drawing q n k t).leaves i b) ≡ Ok (index_in t i, space_of n k ((drawing q n k t).leaves i b))
   unfolding HasVector SameSpan
   drawn-bytes-received =
       ap₂ (receive_of q n k t) (sym (rows-length n k ((drawing q n k t).leaves i b)))
