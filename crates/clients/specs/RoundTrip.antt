@@ -2,7 +2,7 @@
 --   round_trip   == where Draw is not refused and the answer has eleven bytes, Receive of the drawn bytes is done, and leaves the index, k
 --                   and the drawn matrix's identifying vector; the index is what the first eight bytes tell
 -- Assumes nothing.
-use Rattle.std.specs.Prelude.{◌≡◌, List, ℕ, ◌^◌, ◌<◌, length, take}
+use Rattle.std.specs.Prelude.{◌≡◌, List, ℕ, ◌^◌, ◌<◌, length, take, Ok}
 use Rattle.std.proofs.Math.Path.{ap}
 use Rattle.std.proofs.Common.{◌∙◌}
 use Rattle.settings.specs.Laws.Accepted.{not-refused}
@@ -13,7 +13,6 @@ use Rattle.draw.specs.Draw.{draw_refusal, draw_buffer}
 use Rattle.draw.specs.Laws.DrawAccepted.{draw-accepted}
 use Rattle.reduce.specs.Reduce.{space_of}
 use Rattle.receive.specs.Answer.{received_number}
-use Rattle.receive.specs.declared.Received.TheVariants.{Done}
 use Rattle.pandrwyg.specs.Exported.{answer_size, bytes_of, answer_bytes, left_bytes, exported_of, exported_bytes}
 use Rattle.promise_recovery.specs.Demand.{little_endian}
 use Rattle.promise_recovery.proofs.Promises.{receive-agrees}
@@ -24,7 +23,7 @@ module _ (q n k t i : ℕ) (b : List ℕ) (drawn : draw_refusal q n k t i (lengt
   abbrev left : List ℕ
   left = draw_buffer q n k t i b
 
-  received : exported_of q n k t k left answer_size ≡ Done (index_in t i) (space_of n k left)
+  received : exported_of q n k t k left answer_size ≡ Ok (index_in t i, space_of n k left)
   received =
       let a = draw-accepted q n k t i (length b) drawn in
       receive-agrees q n k t k left

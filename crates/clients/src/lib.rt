@@ -3,7 +3,7 @@
 #![tactic(auto)]
 
 ghost use Rattle.std.specs.Prelude.{◌≡◌, length, take};
-ghost use Rattle.refusal.specs.Refusal.{number_of, unless_refused};
+ghost use Rattle.refusal.specs.Refusal.{refusal_number, unless_refused};
 ghost use Rattle.counts.specs.Gaussian.{gaussian, counts as counts_table};
 ghost use Rattle.settings.specs.Settings.{settings_refusal, count_of, count_number, count_value};
 ghost use Rattle.matrix.specs.Matrix.{identifying};
@@ -53,7 +53,7 @@ pub fn all_counts() -> [u64; 1734]
 }
 
 pub fn draw_one(q: u64, n: u64, k: u64, t: u64, index: u64, matrix: &mut [u8]) -> Result<(), Refusal>
-    ensures value { number_of result ≡ draw_refusal q n k t index (length matrix.old) }
+    ensures value { refusal_number result ≡ draw_refusal q n k t index (length matrix.old) }
     ensures matrix_after { matrix.new ≡ draw_buffer q n k t index matrix.old }
 {
     draw::draw(q, n, k, t, index, matrix)
@@ -68,7 +68,7 @@ pub fn draw_many(
     matrices: &mut [u8],
     answers: &mut [u8],
 ) -> Result<(), Refusal>
-    ensures value { number_of result
+    ensures value { refusal_number result
         ≡ batch_refusal q n k t (length indexes.now) (length matrices.old) (length answers.old) }
     ensures matrices_after { matrices.new
         ≡ batch_matrices q n k t indexes.now matrices.old (length answers.old) }

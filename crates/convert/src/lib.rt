@@ -2,7 +2,7 @@
 #![tactic(auto)]
 
 ghost use Rattle.std.specs.Prelude.{◌≡◌, IfOk};
-ghost use Rattle.refusal.specs.Refusal.{number_of, unless_refused};
+ghost use Rattle.refusal.specs.Refusal.{refusal_number, unless_refused};
 ghost use Rattle.numbering.specs.Numbering.{code, index_of, drawn};
 ghost use Rattle.number.specs.Number.{answer_number, answer_index};
 ghost use Rattle.convert.specs.Convert.{convert_refusal, convert_of};
@@ -19,7 +19,7 @@ fn check(
     to: u64,
     index: u64,
 ) -> Result<(Numbering, Numbering), Refusal>
-    ensures refusal { number_of result ≡ convert_refusal q n k from to index }
+    ensures refusal { refusal_number result ≡ convert_refusal q n k from to index }
     ensures chosen { IfOk result (λ c. (code c.0 ≡ from) × (code c.1 ≡ to)) }
 {
     let first = numbering::check(q, n, k, from)?;

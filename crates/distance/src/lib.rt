@@ -2,7 +2,7 @@
 #![tactic(auto)]
 
 ghost use Rattle.std.specs.Prelude.{◌≡◌, ◌*◌, ◌≤◌, T, replicate};
-ghost use Rattle.refusal.specs.Refusal.{number_of, unless_refused};
+ghost use Rattle.refusal.specs.Refusal.{refusal_number, unless_refused};
 ghost use Rattle.field.specs.Field.{is_field_size};
 ghost use Rattle.linear.specs.Span.{rows_of};
 ghost use Rattle.linear.specs.Eliminate.{reduced_rows};
@@ -22,7 +22,7 @@ fn check(
     second_count: u64,
     second: &[u8],
 ) -> Result<(), Refusal>
-    ensures { number_of result ≡ distance_refusal q n first_count first.now second_count second.now }
+    ensures { refusal_number result ≡ distance_refusal q n first_count first.now second_count second.now }
 {
     reduce::check_row_settings(q, n)?;
     reduce::check_rows(q, n, first_count, first)?;

@@ -2,7 +2,7 @@
 #![tactic(auto)]
 
 ghost use Rattle.std.specs.Prelude.{◌≡◌, ◌*◌, length};
-ghost use Rattle.refusal.specs.Refusal.{number_of};
+ghost use Rattle.refusal.specs.Refusal.{refusal_number};
 ghost use Rattle.counts.specs.Gaussian.{gaussian};
 ghost use Rattle.numbering.specs.Numbering.{code, choice_refusal};
 ghost use Rattle.draw.specs.Draw.{draw_refusal, draw_buffer};
@@ -22,7 +22,7 @@ pub fn draw_index(
     index: u64,
 ) -> Result<(), Refusal>
     requires { (choice_refusal q n k (code t) ≡ 0) × (total ≡ gaussian q n k) × (length matrix.old ≡ k * n) }
-    ensures value { number_of result ≡ draw_refusal q n k (code t) index (k * n) }
+    ensures value { refusal_number result ≡ draw_refusal q n k (code t) index (k * n) }
     ensures matrix_after { matrix.new ≡ draw_buffer q n k (code t) index matrix.old }
 {
     if total <= index {
@@ -35,7 +35,7 @@ pub fn draw_index(
 // Draw: writes the reduced matrix with the given index of the numbering t.
 // Refuses 1, 2, 3, 10, 4 (the buffer is not exactly k×n bytes), 5.
 pub fn draw(q: u64, n: u64, k: u64, t: u64, index: u64, matrix: &mut [u8]) -> Result<(), Refusal>
-    ensures value { number_of result ≡ draw_refusal q n k t index (length matrix.old) }
+    ensures value { refusal_number result ≡ draw_refusal q n k t index (length matrix.old) }
     ensures matrix_after { matrix.new ≡ draw_buffer q n k t index matrix.old }
 {
     let numbering = numbering::check(q, n, k, t)?;

@@ -2,7 +2,7 @@
 #![tactic(auto)]
 
 ghost use Rattle.std.specs.Prelude.{◌≡◌, ◌*◌, eqb, length, IfOk};
-ghost use Rattle.refusal.specs.Refusal.{number_of};
+ghost use Rattle.refusal.specs.Refusal.{refusal_number};
 ghost use Rattle.numbering.specs.Numbering.{code, choice_refusal};
 ghost use Rattle.draw_batch.specs.Batch.{batch_refusal, draw_parts, draw_answers, batch_matrices, batch_answers};
 
@@ -29,7 +29,7 @@ fn check(
     matrices: usize,
     answers: usize,
 ) -> Result<Numbering, Refusal>
-    ensures refusal { number_of result ≡ batch_refusal q n k t count matrices answers }
+    ensures refusal { refusal_number result ≡ batch_refusal q n k t count matrices answers }
     ensures chosen { IfOk result (λ c. code c ≡ t) }
 {
     let numbering = numbering::check(q, n, k, t)?;
@@ -41,7 +41,7 @@ fn check(
 
 // The answer byte of one Draw.
 fn answer_of(drawn: Result<(), Refusal>) -> u8
-    ensures { result ≡ number_of drawn }
+    ensures { result ≡ refusal_number drawn }
 {
     match drawn {
         Ok(()) => 0,
@@ -86,7 +86,7 @@ pub fn draw_batch(
     matrices: &mut [u8],
     answers: &mut [u8],
 ) -> Result<(), Refusal>
-    ensures value { number_of result
+    ensures value { refusal_number result
         ≡ batch_refusal q n k t (length indexes.now) (length matrices.old) (length answers.old) }
     ensures matrices_after { matrices.new
         ≡ batch_matrices q n k t indexes.now matrices.old (length answers.old) }

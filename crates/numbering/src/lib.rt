@@ -2,7 +2,7 @@
 #![tactic(auto)]
 
 ghost use Rattle.std.specs.Prelude.{◌≡◌, ◌*◌, ◌<◌, eqb, length, IfOk};
-ghost use Rattle.refusal.specs.Refusal.{number_of};
+ghost use Rattle.refusal.specs.Refusal.{refusal_number};
 ghost use Rattle.counts.specs.Gaussian.{gaussian};
 ghost use Rattle.settings.specs.Laws.Accepted.{Accepted};
 ghost use Rattle.matrix.specs.Matrix.{identifying, Reduced};
@@ -57,7 +57,7 @@ impl From<Index> for u64 {
 
 // Tests the settings and the numbering, which it answers: the first of the refusals 1, 2, 3, 10 that applies.
 pub fn check(q: u64, n: u64, k: u64, t: u64) -> Result<Numbering, Refusal>
-    ensures refusal { number_of result ≡ choice_refusal q n k t }
+    ensures refusal { refusal_number result ≡ choice_refusal q n k t }
     ensures chosen { IfOk result (λ c. code c ≡ t) }
 {
     settings::check(q, n, k)?;

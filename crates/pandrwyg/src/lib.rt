@@ -3,7 +3,7 @@
 #![tactic(auto)]
 
 ghost use Rattle.std.specs.Prelude.{◌≡◌, ◌<◌, length};
-ghost use Rattle.refusal.specs.Refusal.{number_of};
+ghost use Rattle.refusal.specs.Refusal.{refusal_number};
 ghost use Rattle.draw.specs.Draw.{draw_refusal, draw_buffer};
 ghost use Rattle.draw_batch.specs.Batch.{batch_refusal, batch_matrices, batch_answers};
 ghost use Rattle.receive.specs.Answer.{received_number, received_dimension};
@@ -92,7 +92,7 @@ fn check(
     rows: &[u8],
     size: usize,
 ) -> Result<(), Refusal>
-    ensures { number_of result ≡ exported_refusal q n k t row_count rows.now size }
+    ensures { refusal_number result ≡ exported_refusal q n k t row_count rows.now size }
 {
     receive::check_size(q, n, k, t, row_count, rows.len())?;
     if size != ANSWER_SIZE {

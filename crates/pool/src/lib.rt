@@ -2,7 +2,7 @@
 #![tactic(auto)]
 
 ghost use Rattle.std.specs.Prelude.{◌≡◌, true, ◌++◌, ◌+◌, ◌*◌, length};
-ghost use Rattle.refusal.specs.Refusal.{unless_refused, number_of};
+ghost use Rattle.refusal.specs.Refusal.{unless_refused, refusal_number};
 ghost use Rattle.linear.specs.Eliminate.{join};
 ghost use Rattle.reduction.specs.Padded.{padded};
 ghost use Rattle.spaces.specs.Spaces.{stacked as stacked_of, joint_dimension, common_of, common_dimension};
@@ -37,7 +37,7 @@ fn alike(a: Receiver, b: Receiver) -> bool
 
 // Tests two receivers and the lengths of the two buffers: the first of pooling's refusals that applies.
 fn check(a: Receiver, b: Receiver, joint: usize, common: usize) -> Result<(), Refusal>
-    ensures { number_of result ≡ pool_refusal a b joint common }
+    ensures { refusal_number result ≡ pool_refusal a b joint common }
 {
     if !a.is_formed() {
         return Err(Refusal::Receiver);

@@ -2,7 +2,7 @@
 #![tactic(auto)]
 
 ghost use Rattle.std.specs.Prelude.{◌≡◌, ◌*◌, ◌≤◌, T, length};
-ghost use Rattle.refusal.specs.Refusal.{number_of};
+ghost use Rattle.refusal.specs.Refusal.{refusal_number};
 ghost use Rattle.settings.specs.Laws.Accepted.{Accepted};
 ghost use Rattle.matrix.specs.Matrix.{entries_below, Reduced};
 ghost use Rattle.linear.specs.Span.{rows_of};
@@ -78,7 +78,7 @@ pub fn check_size(
     row_count: u64,
     size: usize,
 ) -> Result<(), Refusal>
-    ensures { number_of result ≡ rows_refusal q n k t row_count size }
+    ensures { refusal_number result ≡ rows_refusal q n k t row_count size }
 {
     numbering::check(q, n, k, t)?;
     reduce::check_rows_size(n, row_count, size)
@@ -86,7 +86,7 @@ pub fn check_size(
 
 // Tests what Receive is given, but for the span: the first of its refusals that applies.
 fn check(q: u64, n: u64, k: u64, t: u64, row_count: u64, rows: &[u8]) -> Result<(), Refusal>
-    ensures { number_of result ≡ receive_refusal q n k t row_count rows.now }
+    ensures { refusal_number result ≡ receive_refusal q n k t row_count rows.now }
 {
     check_size(q, n, k, t, row_count, rows.len())?;
     if !matrix::entries_below(rows, q) {

@@ -35,7 +35,7 @@
 use Rattle.std.specs.Prelude.{◌≡◌, Bool, true, false, ◌&&◌, List, [], ◌∷◌, ◌++◌, ℕ, ◌*◌, eqb, ltb, leb, length, take, drop, replicate, Result, Ok, Err}
 use Rattle.basics.specs.Choice.{pick}
 use Rattle.refusal.specs.Refusal.{receiver_refusal, pack_refusal, length_refusal, entry_refusal, numbering_refusal}
-use Rattle.refusal.specs.Refusal.{refuse_unless, first, unless_refused, number, named, answered, number_of}
+use Rattle.refusal.specs.Refusal.{refuse_unless, first, unless_refused, number, named, answered, refusal_number}
 use Rattle.refusal.specs.declared.Refusal.{Refusal}
 use Rattle.settings.specs.Settings.{settings_refusal}
 use Rattle.matrix.specs.Matrix.{entries_below, is_reduced}
@@ -85,7 +85,7 @@ unfoldable pub start_of : Setup → Started
 start_of s = record { receiver = unless_refused (setup_refusal s) (empty s) (empty no_setup); answer = answered (setup_refusal s) tt }
 
 abbrev pub start_number : Started → ℕ
-start_number s = number_of s.answer
+start_number s = refusal_number s.answer
 
 -- the entries that the receiver uses
 abbrev pub used : Receiver → List ℕ

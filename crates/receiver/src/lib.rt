@@ -4,7 +4,7 @@
 ghost use Rattle.std.specs.Prelude.{◌≡◌, false, IfOk};
 ghost use Rattle.std.specs.Bool.{then_some};
 ghost use Rattle.matrix.specs.Matrix.{identifying};
-ghost use Rattle.refusal.specs.Refusal.{number_of};
+ghost use Rattle.refusal.specs.Refusal.{refusal_number};
 ghost use Rattle.receive.specs.Answer.{Told};
 ghost use Rattle.receiver.specs.Receiver.{setup, setup_refusal, offer, empty, start_of, start_number, used, well_formed, is_zero};
 ghost use Rattle.receiver.specs.Receiver.{take_refusal, taken_in, take_of, TakeTells};
@@ -121,7 +121,7 @@ impl Receiver {
 
     // Tests a row that is offered to Take: the first of the refusals 14, 17, 4, 6 that applies. The row's entries are looked at once.
     fn check_take(self, pack: u16, row: &[u8]) -> Result<Tested, Refusal>
-        ensures refusal { number_of result ≡ take_refusal self (offer pack row.now) }
+        ensures refusal { refusal_number result ≡ take_refusal self (offer pack row.now) }
         ensures tested { IfOk result (λ t. (t.vector ≡ identifying self.n self.dimension (used self)) × (t.zero ≡ is_zero row.now)) }
     {
         let vector = self.formed().ok_or(Refusal::Receiver)?;

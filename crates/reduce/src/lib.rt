@@ -2,7 +2,7 @@
 #![tactic(auto)]
 
 ghost use Rattle.std.specs.Prelude.{◌≡◌, ◌*◌, ◌≤◌, T, length, replicate};
-ghost use Rattle.refusal.specs.Refusal.{number_of, unless_refused};
+ghost use Rattle.refusal.specs.Refusal.{refusal_number, unless_refused};
 ghost use Rattle.field.specs.Field.{is_field_size};
 ghost use Rattle.matrix.specs.Matrix.{entries_below, identifying};
 ghost use Rattle.linear.specs.Span.{rows_of};
@@ -19,7 +19,7 @@ pub const MOST_ROWS: u64 = 64;
 
 // Tests q and n: the first of the refusals 1, and 2 for n alone, that applies.
 pub fn check_row_settings(q: u64, n: u64) -> Result<(), Refusal>
-    ensures { number_of result ≡ row_settings_refusal q n }
+    ensures { refusal_number result ≡ row_settings_refusal q n }
 {
     if !field::is_size(q) {
         return Err(Refusal::FieldSize);
@@ -33,7 +33,7 @@ pub fn check_row_settings(q: u64, n: u64) -> Result<(), Refusal>
 // Tests `row_count` rows of n entries in `size` bytes: the first of the refusals 13 and 4 that applies.
 pub fn check_rows_size(n: u64, row_count: u64, size: usize) -> Result<(), Refusal>
     requires { n ≤ 16 }
-    ensures { number_of result ≡ rows_size_refusal n row_count size }
+    ensures { refusal_number result ≡ rows_size_refusal n row_count size }
 {
     if MOST_ROWS < row_count {
         return Err(Refusal::RowCount);
@@ -47,7 +47,7 @@ pub fn check_rows_size(n: u64, row_count: u64, size: usize) -> Result<(), Refusa
 // Tests a list of `row_count` rows of n entries: the first of the refusals 13, 4 and 6 that applies.
 pub fn check_rows(q: u64, n: u64, row_count: u64, rows: &[u8]) -> Result<(), Refusal>
     requires { n ≤ 16 }
-    ensures { number_of result ≡ row_list_refusal q n row_count rows.now }
+    ensures { refusal_number result ≡ row_list_refusal q n row_count rows.now }
 {
     check_rows_size(n, row_count, rows.len())?;
     if !matrix::entries_below(rows, q) {
@@ -65,7 +65,7 @@ pub struct Space {
 
 // Tests what Reduce is given: the first of its refusals that applies.
 fn check(q: u64, n: u64, row_count: u64, rows: &[u8], size: usize) -> Result<(), Refusal>
-    ensures { number_of result ≡ reduce_refusal q n row_count rows.now size }
+    ensures { refusal_number result ≡ reduce_refusal q n row_count rows.now size }
 {
     check_row_settings(q, n)?;
     check_rows_size(n, row_count, rows.len())?;

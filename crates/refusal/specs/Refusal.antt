@@ -4,7 +4,7 @@
 --   unless_refused r done kept == what is answered or left: `done` where r is no refusal, else `kept`
 --   number, named    == the number of a refusal; the first refusal with a number, Pack where none has it
 --   answered r done  == what a call answers: `done` where r is no refusal, else the refusal with the number r
---   number_of        == the number of an answer: its refusal's, or 0
+--   refusal_number   == the number of an answer: its refusal's, or 0
 -- Assumes nothing.
 use Rattle.std.specs.Prelude.{Bool, List, [], ◌∷◌, ℕ, eqb, Result, Ok, Err}
 use Rattle.refusal.specs.declared.Refusal.{Refusal}
@@ -122,6 +122,6 @@ named n = among n refusals
 abbrev pub answered : {A : Type 0} → ℕ → A → Result A Refusal
 answered refusal done = unless_refused refusal (Ok done) (Err (named refusal))
 
-abbrev pub number_of : {A : Type 0} → Result A Refusal → ℕ
-number_of (Ok done) = 0
-number_of (Err refusal) = number refusal
+abbrev pub refusal_number : {A : Type 0} → Result A Refusal → ℕ
+refusal_number (Ok done) = 0
+refusal_number (Err refusal) = number refusal

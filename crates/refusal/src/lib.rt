@@ -2,7 +2,7 @@
 #![tactic(auto)]
 
 ghost use Rattle.std.specs.Prelude.{◌≡◌};
-ghost use Rattle.refusal.specs.Refusal.{number, number_of};
+ghost use Rattle.refusal.specs.Refusal.{number, refusal_number};
 
 // Why a call refuses.
 #[derive(Clone, Copy, Debug, PartialEq, Eq)]
@@ -61,7 +61,7 @@ impl From<Refusal> for u32 {
 
 // The number of a call's refusal; 0 where it is met.
 pub fn number_of(done: Result<(), Refusal>) -> u32
-    ensures { result ≡ number_of done }
+    ensures { result ≡ refusal_number done }
 {
     match done {
         Ok(()) => 0,

@@ -2,7 +2,7 @@
 #![tactic(auto)]
 
 ghost use Rattle.std.specs.Prelude.{◌≡◌};
-ghost use Rattle.refusal.specs.Refusal.{number_of, unless_refused};
+ghost use Rattle.refusal.specs.Refusal.{refusal_number, unless_refused};
 ghost use Rattle.counts.specs.Gaussian.{gaussian};
 ghost use Rattle.settings.specs.Settings.{row_length_ok, settings_refusal, list_refusal, count_of, count_number, count_value};
 
@@ -17,7 +17,7 @@ pub fn row_length_ok(n: u64) -> bool
 
 // Tests the settings: the first of the refusals 1, 2, 3 that applies.
 pub fn check(q: u64, n: u64, k: u64) -> Result<(), Refusal>
-    ensures { number_of result ≡ settings_refusal q n k }
+    ensures { refusal_number result ≡ settings_refusal q n k }
 {
     if !field::is_size(q) {
         return Err(Refusal::FieldSize);
@@ -36,7 +36,7 @@ pub const GREATEST_LISTING: u64 = 65536;
 
 // Tests the settings of a listing: the first of the refusals 1, 2, 3, 12 that applies.
 pub fn check_listing(q: u64, n: u64, k: u64) -> Result<(), Refusal>
-    ensures { number_of result ≡ list_refusal q n k }
+    ensures { refusal_number result ≡ list_refusal q n k }
 {
     if count(q, n, k)? <= GREATEST_LISTING {
         Ok(())

@@ -2,7 +2,7 @@
 use Rattle.std.proofs.Common.{◌≡◌, sym, ap, ◌∙◌, ℕ, Ok, Err}
 use Rattle.std.specs.Prelude.{Result}
 use Rattle.std.proofs.lemmas.Result.{err_from_is_err_and}
-use Rattle.refusal.specs.Refusal.{number_of}
+use Rattle.refusal.specs.Refusal.{refusal_number}
 use Rattle.refusal.specs.declared.Refusal.{Refusal}
 use Rattle.refusal.specs.Laws.First.{number-positive, first-refused, first-passed, test-refused, test-passed, first-none}
 use Rattle.settings.specs.Settings.{settings_refusal}
@@ -11,7 +11,7 @@ use Rattle.numbering.specs.declared.Numbering.{Numbering as Choice}
 use Rattle.numbering.specs.Laws.Either.{code-known}
 use Rattle.numbering.proofs.check.Goals as goal
 
-chosen : (q n k t : ℕ) (r : Result Choice Refusal) → 0 ≡ settings_refusal q n k → Chooses t r → number_of r ≡ choice_refusal q n k t
+chosen : (q n k t : ℕ) (r : Result Choice Refusal) → 0 ≡ settings_refusal q n k → Chooses t r → refusal_number r ≡ choice_refusal q n k t
 unfolding choice_refusal
 chosen q n k t (Ok c) s e =
     sym (first-passed _ _ (sym s) ∙ test-passed _ _ _ (ap is_numbering (sym e) ∙ code-known c) ∙ first-none)

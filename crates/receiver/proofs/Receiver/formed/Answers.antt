@@ -8,7 +8,7 @@ use Rattle.std.specs.Result.{result_ok}
 use Rattle.std.proofs.Math.Seq.{take_all}
 use Rattle.std.proofs.lemmas.Option.{none-some}
 use Rattle.basics.specs.Choice.{pick}
-use Rattle.refusal.specs.Refusal.{number_of}
+use Rattle.refusal.specs.Refusal.{refusal_number}
 use Rattle.refusal.specs.Laws.First.{number-positive}
 use Rattle.refusal.specs.declared.Refusal.{Refusal}
 use Rattle.settings.specs.Laws.Accepted.{accepted}
@@ -22,11 +22,11 @@ use Rattle.receiver.specs.Laws.Sound.{used-fit}
 use Rattle.receiver.specs.declared.Receiver.{Receiver}
 use Rattle.receiver.proofs.Receiver.formed.Goals as goal
 
-settled : (r : Result ⊤ Refusal) (v : ⊤) → Some v ≡ result_ok r → number_of r ≡ 0
+settled : (r : Result ⊤ Refusal) (v : ⊤) → Some v ≡ result_ok r → refusal_number r ≡ 0
 settled (Ok x) v e = refl
 settled (Err x) v e = absurd (none-some v (sym e))
 
-unsettled : (r : Result ⊤ Refusal) → None ≡ result_ok r → number_of r ≡ 0 → ⊥
+unsettled : (r : Result ⊤ Refusal) → None ≡ result_ok r → refusal_number r ≡ 0 → ⊥
 unsettled (Ok x) e z = none-some x e
 unsettled (Err x) e z = number-positive x z
 
