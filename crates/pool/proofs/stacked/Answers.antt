@@ -8,7 +8,7 @@ use Rattle.double_rows.specs.Laws.Fill.{padded-none, padded-taken, padded-size, 
 use Rattle.receiver.specs.Receiver.{well_formed, held_rows}
 use Rattle.receiver.specs.declared.Receiver.{Receiver}
 use Rattle.pool.specs.Pool.{alike}
-use Rattle.pool.specs.Laws.Pooling.{narrow, first-low, second-low, first_fits, second_fits, first-length, second-length, stack-joined}
+use Rattle.pool.specs.Laws.Pooling.{narrow, first-low, first_fits, second_fits, first-length, stack-joined}
 use Rattle.pool.proofs.stacked.Goals as goal
 
 module _ (a b : Receiver) (whole-a : length a.entries ≡ 256) (whole-b : length b.entries ≡ 256) (formed-a : well_formed a ≡ true)
@@ -16,16 +16,11 @@ module _ (a b : Receiver) (whole-a : length a.entries ≡ 256) (whole-b : length
   small : a.n ≤ 16
   small = narrow a b whole-a whole-b formed-a formed-b same
 
-  -- the rows of either receiver, of double width
+  -- the rows of the first receiver, of double width
   double-a : a.dimension * (a.n + a.n) ≤ 512
   double-a =
       mul-le-mul {n₁ = a.dimension} {m₁ = a.n + a.n} {n₂ = 16} {m₂ = 32}
       (omega (arith, first-low a b whole-a whole-b formed-a formed-b same, small)) (omega (arith, small))
-
-  double-b : b.dimension * (a.n + a.n) ≤ 512
-  double-b =
-      mul-le-mul {n₁ = b.dimension} {m₁ = a.n + a.n} {n₂ = 16} {m₂ = 32}
-      (omega (arith, second-low a b whole-a whole-b formed-a formed-b same, small)) (omega (arith, small))
 
   -- what is written of the first receiver, and of the second
   front : List ℕ
@@ -79,12 +74,6 @@ shared_ref_as_front-stack c =
     let wb : length c.args.b.entries ≡ 256 = search rules in
     first_fits _ _ wa wb c.requires.0 c.requires.1 c.requires.2
 
-pub stack-requires-clause-rows_len : goal.stack-requires-clause-rows_len
-stack-requires-clause-rows_len c =
-    let wa : length c.args.a.entries ≡ 256 = search rules in
-    let wb : length c.args.b.entries ≡ 256 = search rules in
-    (first-length _ _ wa wb c.requires.0 c.requires.1 c.requires.2, omega (arith, double-a _ _ wa wb c.requires.0 c.requires.1 c.requires.2))
-
 pub stack-requires-clause-out_value : goal.stack-requires-clause-out_value
 stack-requires-clause-out_value c = padded-none 1024
 
@@ -99,15 +88,6 @@ shared_ref_as_front-stack-2 c =
     let wa : length c.args.a.entries ≡ 256 = search rules in
     let wb : length c.args.b.entries ≡ 256 = search rules in
     second_fits _ _ wa wb c.requires.0 c.requires.1 c.requires.2
-
-pub stack-requires-2-clause-rows_len : goal.stack-requires-2-clause-rows_len
-unfolding front
-stack-requires-2-clause-rows_len c =
-    let wa : length c.args.a.entries ≡ 256 = search rules in
-    let wb : length c.args.b.entries ≡ 256 = search rules in (
-      second-length _ _ wa wb c.requires.0 c.requires.1 c.requires.2,
-      omega (arith, double-a _ _ wa wb c.requires.0 c.requires.1 c.requires.2, double-b _ _ wa wb c.requires.0 c.requires.1 c.requires.2, sized _ _ wa wb c.requires.0 c.requires.1 c.requires.2 _ c.stack.ensures),
-    )
 
 pub stack-requires-2-clause-out_value : goal.stack-requires-2-clause-out_value
 unfolding front
