@@ -88,7 +88,8 @@ unfolding place_after buffer_after listing_output column_names header lines_from
     reduce_buffer distance distance_refusal distance_of space_answer rows_refusal receive_refusal receive_of all_below sum sum_range value tabulate
     padded refused_word refused_line reduce_of convert_refusal convert_of start_of well_formed held_rows holding take_refusal taken_in take_of
     close_refusal close_of bytes_of exported_refusal exported_number exported_of exported_bytes space_refusal joint_of joint_dimension wide wide_rows
-    stacked right_halves common_rows common_of common_dimension alike pool_refusal pooled pool_of joint_buffer common_buffer after accepted among named
+    stacked right_halves common_rows common_of common_dimension alike pool_refusal pooled pool_of joint_buffer common_buffer after accepted
+    among named
 every = each (marked ++ (readings ++ refusals)) refl
 
 front : {P : Example → Type 0} (xs ys : List Example) → All P (xs ++ ys) → All P xs
