@@ -3,7 +3,7 @@
 #![tactic(auto)]
 
 ghost use Rattle.std.specs.Prelude.{◌≡◌, length, take};
-ghost use Rattle.refusal.specs.Refusal.{unless_refused};
+ghost use Rattle.refusal.specs.Refusal.{number_of, unless_refused};
 ghost use Rattle.counts.specs.Gaussian.{gaussian, counts as counts_table};
 ghost use Rattle.settings.specs.Settings.{settings_refusal, count_of, count_number, count_value};
 ghost use Rattle.matrix.specs.Matrix.{identifying};
@@ -30,17 +30,16 @@ ghost use Rattle.settings_line.specs.SettingsLine.{parsed};
 ghost use Rattle.listing.specs.Steps.{begun, chunk_of, next_state};
 ghost use Rattle.listing.specs.Front.{written};
 
-use distance::Measured;
 use listing::{State, Stepped};
-use number::Numbered;
+use numbering::Index;
 use pool::Pooled;
-use receive::Received;
+use receive::Unreceived;
 use receiver::{Receiver, Started, Taken};
-use reduce::Reduction;
-use settings::Counted;
+use reduce::Space;
+use refusal::Refusal;
 use settings_line::Settings;
 
-pub fn count(q: u64, n: u64, k: u64) -> Counted
+pub fn count(q: u64, n: u64, k: u64) -> Result<u64, Refusal>
     ensures value { result ≡ count_of q n k }
     ensures result_value { (count_number result ≡ settings_refusal q n k) × (count_value result ≡ unless_refused (settings_refusal q n k) (gaussian q n k) 0) }
 {
@@ -53,8 +52,8 @@ pub fn all_counts() -> [u64; 1734]
     counts::all_counts()
 }
 
-pub fn draw_one(q: u64, n: u64, k: u64, t: u64, index: u64, matrix: &mut [u8]) -> u32
-    ensures value { result ≡ draw_refusal q n k t index (length matrix.old) }
+pub fn draw_one(q: u64, n: u64, k: u64, t: u64, index: u64, matrix: &mut [u8]) -> Result<(), Refusal>
+    ensures value { number_of result ≡ draw_refusal q n k t index (length matrix.old) }
     ensures matrix_after { matrix.new ≡ draw_buffer q n k t index matrix.old }
 {
     draw::draw(q, n, k, t, index, matrix)
@@ -68,8 +67,8 @@ pub fn draw_many(
     indexes: &[u64],
     matrices: &mut [u8],
     answers: &mut [u8],
-) -> u32
-    ensures value { result
+) -> Result<(), Refusal>
+    ensures value { number_of result
         ≡ batch_refusal q n k t (length indexes.now) (length matrices.old) (length answers.old) }
     ensures matrices_after { matrices.new
         ≡ batch_matrices q n k t indexes.now matrices.old (length answers.old) }
@@ -79,7 +78,7 @@ pub fn draw_many(
     draw_batch::draw_batch(q, n, k, t, indexes, matrices, answers)
 }
 
-pub fn number_one(q: u64, n: u64, k: u64, t: u64, matrix: &[u8]) -> Numbered
+pub fn number_one(q: u64, n: u64, k: u64, t: u64, matrix: &[u8]) -> Result<Index, Refusal>
     ensures value { result ≡ number_of q n k t matrix.now }
     ensures result_value { (answer_number result ≡ number_refusal q n k t matrix.now)
         × (answer_index result ≡ unless_refused (number_refusal q n k t matrix.now) (index_of q n k t matrix.now) 0) }
@@ -87,7 +86,7 @@ pub fn number_one(q: u64, n: u64, k: u64, t: u64, matrix: &[u8]) -> Numbered
     number::number(q, n, k, t, matrix)
 }
 
-pub fn convert_one(q: u64, n: u64, k: u64, from: u64, to: u64, index: u64) -> Numbered
+pub fn convert_one(q: u64, n: u64, k: u64, from: u64, to: u64, index: u64) -> Result<Index, Refusal>
     ensures value { result ≡ convert_of q n k from to index }
     ensures result_value { (answer_number result ≡ convert_refusal q n k from to index)
         × (answer_index result ≡ unless_refused (convert_refusal q n k from to index) (index_of q n k to (drawn q n k from index)) 0) }
@@ -95,7 +94,7 @@ pub fn convert_one(q: u64, n: u64, k: u64, from: u64, to: u64, index: u64) -> Nu
     convert::convert(q, n, k, from, to, index)
 }
 
-pub fn reduce_rows(q: u64, n: u64, row_count: u64, rows: &[u8], output: &mut [u8]) -> Reduction
+pub fn reduce_rows(q: u64, n: u64, row_count: u64, rows: &[u8], output: &mut [u8]) -> Result<Space, Refusal>
     ensures value { result ≡ reduce_of q n row_count rows.now (length output.old) }
     ensures output_after { output.new ≡ reduce_buffer q n row_count rows.now output.old }
     ensures result_value { (reduction_number result ≡ reduce_refusal q n row_count rows.now (length output.old))
@@ -115,7 +114,7 @@ pub fn distance_of_rows(
     first: &[u8],
     second_count: u64,
     second: &[u8],
-) -> Measured
+) -> Result<u64, Refusal>
     ensures value { result ≡ distance_of q n first_count first.now second_count second.now }
     ensures result_value { (distance_number result ≡ distance_refusal q n first_count first.now second_count second.now)
         × (distance_value result ≡ unless_refused (distance_refusal q n first_count first.now second_count second.now)
@@ -124,7 +123,7 @@ pub fn distance_of_rows(
     distance::distance(q, n, first_count, first, second_count, second)
 }
 
-pub fn receive_rows(q: u64, n: u64, k: u64, t: u64, row_count: u64, rows: &[u8]) -> Received
+pub fn receive_rows(q: u64, n: u64, k: u64, t: u64, row_count: u64, rows: &[u8]) -> Result<(Index, Space), Unreceived>
     ensures value { result ≡ receive_of q n k t row_count rows.now }
     ensures told { Told q n k t (dimension_of q n (rows_of n row_count rows.now))
         (reduced_of q n (rows_of n row_count rows.now)) (receive_refusal q n k t row_count rows.now) result }
@@ -156,7 +155,7 @@ pub fn taken_lent(mut receiver: Receiver, pack: u16, row: &[u8]) -> Taken
     Taken { receiver, answer }
 }
 
-pub fn close(receiver: Receiver, t: u64) -> Received
+pub fn close(receiver: Receiver, t: u64) -> Result<(Index, Space), Unreceived>
     ensures value { result ≡ close_of receiver t }
     ensures told { Told receiver.q receiver.n receiver.k t receiver.dimension (used receiver) (close_refusal receiver t) result }
 {

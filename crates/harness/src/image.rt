@@ -1,11 +1,13 @@
 // Flat shims for the receiver's calls: the receiver passes as its image, field by field.
 use crate::Answer;
-use pool::{Dimensions, PoolAnswer, Pooled};
-use receive::Received;
-use receiver::{Receiver, TakeAnswer, Taken};
+use numbering::Index;
+use pool::{Dimensions, Pooled};
+use receive::Unreceived;
+use receiver::{Effect, Receiver, Taken};
+use reduce::Space;
 
 #[repr(C)]
-#[derive(Drop)]
+#[derive(Clone, Copy)]
 pub struct Image {
     pub entries: [u8; 256],
     pub q: u64,
@@ -17,7 +19,7 @@ pub struct Image {
 
 // What Start and Take leave: the receiver, the refusal or 0, 1 where the dimension grew, and 1 where the row was idle.
 #[repr(C)]
-#[derive(Drop)]
+#[derive(Clone, Copy)]
 pub struct Step {
     pub image: Image,
     pub refusal: u32,
@@ -25,15 +27,16 @@ pub struct Step {
     pub idle: u32,
 }
 
-fn image_of(receiver: Receiver) -> Image {
-    let entries = receiver.entries;
-    Image {
-        entries,
-        q: receiver.q,
-        n: receiver.n,
-        k: receiver.k,
-        dimension: receiver.dimension,
-        pack: receiver.pack as u64,
+impl From<Receiver> for Image {
+    fn from(receiver: Receiver) -> Image {
+        Image {
+            entries: receiver.entries,
+            q: receiver.q,
+            n: receiver.n,
+            k: receiver.k,
+            dimension: receiver.dimension,
+            pack: receiver.pack.into(),
+        }
     }
 }
 
@@ -42,73 +45,76 @@ fn pack_of(pack: u64) -> u16 {
     (pack % 65536) as u16
 }
 
-fn receiver_of(image: Image) -> Receiver {
-    let entries = image.entries;
-    Receiver {
-        entries,
-        q: image.q,
-        n: image.n,
-        k: image.k,
-        dimension: image.dimension,
-        pack: pack_of(image.pack),
-    }
-}
-
-fn step_of(receiver: Receiver, refusal: u32, raised: u32, idle: u32) -> Step {
-    Step {
-        image: image_of(receiver),
-        refusal,
-        raised,
-        idle,
+impl From<Image> for Receiver {
+    fn from(image: Image) -> Receiver {
+        Receiver {
+            entries: image.entries,
+            q: image.q,
+            n: image.n,
+            k: image.k,
+            dimension: image.dimension,
+            pack: pack_of(image.pack),
+        }
     }
 }
 
 #[unsafe(no_mangle)]
 pub extern "C" fn harness_start(q: u64, n: u64, k: u64, pack: u64) -> Step {
     let started = receiver::start(q, n, k, pack_of(pack));
-    let receiver = started.receiver;
-    step_of(receiver, started.refusal, 0, 0)
+    Step {
+        image: started.receiver.into(),
+        refusal: refusal::number_of(started.answer),
+        raised: 0,
+        idle: 0,
+    }
 }
 
-fn take_step(taken: Taken) -> Step {
-    let receiver = taken.receiver;
-    let answer = taken.answer;
-    match answer {
-        TakeAnswer::Raised => step_of(receiver, 0, 1, 0),
-        TakeAnswer::Held => step_of(receiver, 0, 0, 0),
-        TakeAnswer::Idle => step_of(receiver, 0, 0, 1),
-        TakeAnswer::Refused(refusal) => step_of(receiver, refusal, 0, 0),
+impl From<Taken> for Step {
+    fn from(taken: Taken) -> Step {
+        let (refusal, raised, idle) = match taken.answer {
+            Ok(Effect::Raised) => (0, 1, 0),
+            Ok(Effect::Held) => (0, 0, 0),
+            Ok(Effect::Idle) => (0, 0, 1),
+            Err(refusal) => (refusal.into(), 0, 0),
+        };
+        Step {
+            image: taken.receiver.into(),
+            refusal,
+            raised,
+            idle,
+        }
     }
 }
 
 #[unsafe(no_mangle)]
 pub extern "C" fn harness_take(image: Image, pack: u64, row: &[u8]) -> Step {
-    take_step(receiver_of(image).take(pack_of(pack), row))
+    Receiver::from(image).take(pack_of(pack), row).into()
 }
 
 #[unsafe(no_mangle)]
 pub extern "C" fn harness_take_lent(image: Image, pack: u64, row: &[u8]) -> Step {
-    take_step(clients::taken_lent(receiver_of(image), pack_of(pack), row))
+    clients::taken_lent(image.into(), pack_of(pack), row).into()
 }
 
 // What Receive and Close answer; done, the index and the vector, and no dimension.
-fn received(answer: Received) -> Answer {
+fn received(answer: Result<(Index, Space), Unreceived>) -> Answer {
     match answer {
-        Received::Done(index, space) => Answer {
+        Ok((index, space)) => Answer {
             refusal: 0,
-            value: crate::index_value(index),
+            value: index.into(),
             dimension: 0,
-            vector: space.vector as u64,
+            vector: space.vector.into(),
         },
-        Received::TooFew(space) => crate::spanned(refusal::TOO_FEW, space),
-        Received::TooMany(space) => crate::spanned(refusal::TOO_MANY, space),
-        Received::Refused(refusal) => crate::refused(refusal),
+        Err(Unreceived::Refused(refusal)) => crate::number(Err(refusal)),
+        Err(unreceived @ (Unreceived::TooFew(space) | Unreceived::TooMany(space))) => {
+            crate::spanned(unreceived.into(), space)
+        }
     }
 }
 
 #[unsafe(no_mangle)]
 pub extern "C" fn harness_close(image: Image, numbering: u64) -> Answer {
-    received(receiver_of(image).close(numbering))
+    received(Receiver::from(image).close(numbering))
 }
 
 #[unsafe(no_mangle)]
@@ -125,7 +131,7 @@ pub extern "C" fn harness_receive(
 
 // What Pool leaves: the pooled receiver, the refusal or 0, and the dimensions of the joint and of the common space.
 #[repr(C)]
-#[derive(Drop)]
+#[derive(Clone, Copy)]
 pub struct PooledImage {
     pub image: Image,
     pub refusal: u32,
@@ -133,26 +139,21 @@ pub struct PooledImage {
     pub common_dimension: u64,
 }
 
-fn pooled_of(receiver: Receiver, refusal: u32, dimensions: Dimensions) -> PooledImage {
-    PooledImage {
-        image: image_of(receiver),
-        refusal,
-        joint_dimension: dimensions.joint,
-        common_dimension: dimensions.common,
-    }
-}
-
-fn pooled_image(pooled: Pooled) -> PooledImage {
-    let receiver = pooled.receiver;
-    let answer = pooled.answer;
-    match answer {
-        PoolAnswer::Done(dimensions) => pooled_of(receiver, 0, dimensions),
-        PoolAnswer::Refused(refusal) => {
-            let none = Dimensions {
-                joint: 0,
-                common: 0,
-            };
-            pooled_of(receiver, refusal, none)
+impl From<Pooled> for PooledImage {
+    fn from(pooled: Pooled) -> PooledImage {
+        let none = Dimensions {
+            joint: 0,
+            common: 0,
+        };
+        let (refusal, dimensions) = match pooled.answer {
+            Ok(dimensions) => (0, dimensions),
+            Err(refusal) => (refusal.into(), none),
+        };
+        PooledImage {
+            image: pooled.receiver.into(),
+            refusal,
+            joint_dimension: dimensions.joint,
+            common_dimension: dimensions.common,
         }
     }
 }
@@ -164,5 +165,5 @@ pub extern "C" fn harness_pool(
     joint: &mut [u8],
     common: &mut [u8],
 ) -> PooledImage {
-    pooled_image(pool::pool(receiver_of(a), receiver_of(b), joint, common))
+    pool::pool(a.into(), b.into(), joint, common).into()
 }

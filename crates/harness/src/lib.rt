@@ -3,15 +3,13 @@
 
 pub mod image;
 
-use distance::Measured;
-use number::Numbered;
 use numbering::Index;
-use reduce::{Reduction, Space};
-use settings::Counted;
+use reduce::Space;
+use refusal::Refusal;
 
 // An answer with document 01's refusal number, index or count, and dimension, and the identifying vector.
 #[repr(C)]
-#[derive(Drop)]
+#[derive(Clone, Copy)]
 pub struct Answer {
     pub refusal: u32,
     pub value: u64,
@@ -19,21 +17,25 @@ pub struct Answer {
     pub vector: u64,
 }
 
-fn refused(refusal: u32) -> Answer {
+// A number, or the refusal.
+fn number(answer: Result<u64, Refusal>) -> Answer {
+    let (refusal, value) = match answer {
+        Ok(value) => (0, value),
+        Err(refusal) => (refusal.into(), 0),
+    };
     Answer {
-        refusal: refusal,
-        value: 0,
+        refusal,
+        value,
         dimension: 0,
         vector: 0,
     }
 }
 
-fn done(value: u64) -> Answer {
-    Answer {
-        refusal: 0,
-        value: value,
-        dimension: 0,
-        vector: 0,
+// An index, or the refusal.
+fn index(answer: Result<Index, Refusal>) -> Answer {
+    match answer {
+        Ok(index) => number(Ok(index.into())),
+        Err(refusal) => number(Err(refusal)),
     }
 }
 
@@ -43,7 +45,7 @@ fn spanned(refusal: u32, space: Space) -> Answer {
         refusal,
         value: 0,
         dimension: space.dimension,
-        vector: space.vector as u64,
+        vector: space.vector.into(),
     }
 }
 
@@ -59,29 +61,12 @@ pub extern "C" fn harness_table_entry(place: u64) -> u64 {
 
 #[unsafe(no_mangle)]
 pub extern "C" fn harness_count(q: u64, n: u64, k: u64) -> Answer {
-    match settings::count(q, n, k) {
-        Counted::Count(count) => done(count),
-        Counted::Refused(refusal) => refused(refusal),
-    }
-}
-
-fn index_value(index: Index) -> u64 {
-    match index {
-        Index::Extended(i) => i.0,
-        Index::Ferrers(i) => i.0,
-    }
-}
-
-fn numbered(answer: Numbered) -> Answer {
-    match answer {
-        Numbered::Done(index) => done(index_value(index)),
-        Numbered::Refused(refusal) => refused(refusal),
-    }
+    number(settings::count(q, n, k))
 }
 
 #[unsafe(no_mangle)]
 pub extern "C" fn harness_number(q: u64, n: u64, k: u64, numbering: u64, matrix: &[u8]) -> Answer {
-    numbered(number::number(q, n, k, numbering, matrix))
+    index(number::number(q, n, k, numbering, matrix))
 }
 
 #[unsafe(no_mangle)]
@@ -93,7 +78,7 @@ pub extern "C" fn harness_convert(
     to: u64,
     index: u64,
 ) -> Answer {
-    numbered(convert::convert(q, n, k, from, to, index))
+    crate::index(convert::convert(q, n, k, from, to, index))
 }
 
 #[unsafe(no_mangle)]
@@ -105,8 +90,8 @@ pub extern "C" fn harness_reduce(
     output: &mut [u8],
 ) -> Answer {
     match reduce::reduce(q, n, row_count, rows, output) {
-        Reduction::Done(space) => spanned(0, space),
-        Reduction::Refused(refusal) => refused(refusal),
+        Ok(space) => spanned(0, space),
+        Err(refusal) => number(Err(refusal)),
     }
 }
 
@@ -119,8 +104,5 @@ pub extern "C" fn harness_distance(
     second_count: u64,
     second: &[u8],
 ) -> Answer {
-    match distance::distance(q, n, first_count, first, second_count, second) {
-        Measured::Distance(distance) => done(distance),
-        Measured::Refused(refusal) => refused(refusal),
-    }
+    number(distance::distance(q, n, first_count, first, second_count, second))
 }

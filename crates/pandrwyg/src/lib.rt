@@ -54,9 +54,9 @@ fn write_answer(answer: &mut [u8], index: u64, space: Space)
     requires { (length answer.old ≡ answer_size) × (space.dimension < 256) }
     ensures { answer.new ≡ answer_bytes index space.dimension space.vector }
 {
-    answer[..8].copy_from_slice(&index.to_le_bytes());
+    basics::copy(&index.to_le_bytes(), answer, 0);
     answer[8] = space.dimension as u8;
-    answer[9..].copy_from_slice(&space.vector.to_le_bytes());
+    basics::copy(&space.vector.to_le_bytes(), answer, 9);
 }
 
 // Leaves what was received in the lent answer, and gives its refusal number.

@@ -1,14 +1,13 @@
 // Runs document 01's bench examples that are not proved, and prints a line for each; the file stdout holds what they must be.
 #![tactic(auto)]
 
-use settings::Counted;
 use std::io;
 
 // The settings, and the count or the refusal.
 fn count(rt: &impl Print, q: u64, n: u64, k: u64) -> io::Result<()> {
     match settings::count(q, n, k) {
-        Counted::Count(count) => println!(rt; "count {q},{n},{k}: {count}"),
-        Counted::Refused(refusal) => println!(rt; "count {q},{n},{k}: refused {refusal}"),
+        Ok(count) => println!(rt; "count {q},{n},{k}: {count}"),
+        Err(refusal) => println!(rt; "count {q},{n},{k}: refused {}", u32::from(refusal)),
     }
 }
 
