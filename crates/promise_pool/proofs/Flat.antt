@@ -2,7 +2,7 @@
 -- follows from `order-1`, `packs-apart`, `pool-spaces` and `pool-reachable` by their clauses, and uses each of them.
 --   order-1-flat  == "Pooling takes two receivers with equal q, n and k and writes two reduced matrices into lent n×n buffers: .."
 -- Assumes nothing.
-use Rattle.std.specs.Prelude.{◌≡◌, true, List, ◌++◌, ◌↔◌, ℕ, ◌+◌, ◌*◌, ◌-◌, ◌<◌, ◌≤◌, length, replicate}
+use Rattle.std.specs.Prelude.{◌≡◌, true, List, ◌++◌, ◌↔◌, ℕ, ◌+◌, ◌*◌, ◌-◌, ◌<◌, ◌≤◌, length, replicate, Ok}
 use Rattle.std.proofs.Math.Path.{ap, sym}
 use Rattle.std.proofs.Common.{◌∙◌, subst, subst₂}
 use Rattle.std.proofs.Math.ListN.{length-replicate}
@@ -18,7 +18,6 @@ use Rattle.numbering.specs.Numbering.{is_numbering, index_in}
 use Rattle.numbering.specs.Laws.Chosen.{first-known}
 use Rattle.drawing.specs.Drawing.{drawing}
 use Rattle.spaces.specs.Spaces.{JointSpace, CommonSpace, joint_of, joint_dimension}
-use Rattle.receive.specs.declared.Received.TheVariants.{Done}
 use Rattle.receiver.specs.Receiver.{Setup, setup, setup_of, setup_refusal, empty, used, held_rows, holding, close_of}
 use Rattle.receiver.specs.Laws.Sound.{sound}
 use Rattle.receiver.specs.Laws.Held.{settings-laws, holding-size, holding-used, holding-span}
@@ -228,7 +227,7 @@ pub order-1-flat :
     → All (Mixed q n (rows_of n k ((drawing q n k t).leaves i b))) vs
     -- closing the pooled receiver in the draw's numbering must give the drawn index exactly when k dimensions are reached."
     → (tells (close_of p.receiver t) 0 i ↔ (pool_joint p.answer ≡ k))
-    × ((v : ℕ) → HasVector q n (us ++ vs) k v → close_of p.receiver t ≡ Done (index_in t i) (record { dimension = k; vector = v }))
+    × ((v : ℕ) → HasVector q n (us ++ vs) k v → close_of p.receiver t ≡ Ok (index_in t i, record { dimension = k; vector = v }))
     -- (If they are fewer it refuses with 8, more they are never, and either way it tells the true dimension and identifying vector.)
     × (pool_joint p.answer ≤ k)
     × (pool_joint p.answer < k → tells (close_of p.receiver t) 8 0)

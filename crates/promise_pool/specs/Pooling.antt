@@ -7,10 +7,9 @@
 --   Pooling s t i cs ds == closing the pooled receiver in the numbering t answers, as demand 3 says it of Close, for the rows of both:
 --                          with their true dimension and identifying vector too
 -- Assumes nothing.
-use Rattle.std.specs.Prelude.{◌≡◌, List, ◌++◌, ℕ, ◌*◌}
+use Rattle.std.specs.Prelude.{◌≡◌, List, ◌++◌, ℕ, ◌*◌, Ok}
 use Rattle.linear.specs.Span.{HasVector}
 use Rattle.numbering.specs.Numbering.{index_in}
-use Rattle.receive.specs.declared.Received.TheVariants.{Done}
 use Rattle.receiver.specs.Receiver.{Setup, close_of}
 use Rattle.receiver.specs.declared.Receiver.{Receiver}
 use Rattle.promise_recovery.specs.Calls.{Call, begun, after, accepted}
@@ -30,4 +29,4 @@ pooled_after s cs ds = pool_of (after (begun s) cs) (after (begun s) ds) (s.n * 
 pub record Pooling (s : Setup) (t i : ℕ) (cs ds : List Call) : Type 0 where
   pub answers : Answers s.q s.n s.k i (rows_of_both s cs ds) (told (close_of (pooled_after s cs ds).receiver t))
   pub typed : (v : ℕ) → HasVector s.q s.n (rows_of_both s cs ds) s.k v
-      → close_of (pooled_after s cs ds).receiver t ≡ Done (index_in t i) (record { dimension = s.k; vector = v })
+      → close_of (pooled_after s cs ds).receiver t ≡ Ok (index_in t i, record { dimension = s.k; vector = v })

@@ -6,12 +6,13 @@
 --                      dimensions together."
 --   pool-reachable  == the pooled receiver is one that Start and Take can leave, so that it takes rows, closes and is pooled again
 -- Assumes nothing.
-use Rattle.std.specs.Prelude.{◌≡◌, List, ◌++◌, ◌↔◌, length}
+use Rattle.std.specs.Prelude.{◌≡◌, List, ◌++◌, ◌↔◌, length, Result}
 use Rattle.std.proofs.Math.Path.{refl, ap, ap₂, sym, subst}
 use Rattle.std.proofs.Common.{◌∙◌}
 use Prim.Native.Nat.{ℕ, ◌+◌, ◌*◌, ◌-◌}
 use Rattle.std.proofs.Math.ListN.{replicate}
 use Rattle.refusal.specs.Refusal.{unless_refused}
+use Rattle.refusal.specs.declared.Refusal.{Refusal}
 use Rattle.refusal.specs.Laws.First.{done}
 use Rattle.field.specs.FieldLaws.{Laws}
 use Rattle.linear.specs.Span.{All, Row}
@@ -33,7 +34,7 @@ use Rattle.promise_recovery.proofs.Laws.Reachable.{holding-reachable}
 use Rattle.pool.specs.Pool.{pool_refusal, pooled, pool_of, joint_buffer, common_buffer, pool_number, pool_joint, pool_common}
 use Rattle.pool.specs.declared.Pooled.{Pooled}
 use Rattle.pool.specs.Laws.PoolAccepted.{PoolAccepted, alike-setups, pool-accepted, pool-told}
-use Rattle.pool.specs.declared.PoolAnswer.{PoolAnswer}
+use Rattle.pool.specs.declared.Dimensions.{Dimensions}
 use Rattle.pool.specs.Laws.Pooling.{field_laws, first-held, second-held}
 use Rattle.promise_pool.specs.Pooling.{SameSetup}
 
@@ -84,7 +85,7 @@ module _ (a b : Receiver) (whole-a : length a.entries ≡ 256) (whole-b : length
       (common_of a.q a.n (held_rows a) (held_rows b))
   C = (common-exactly a.q law a.n (held_rows a) (held_rows b) first second _ _).1 (refl, refl)
 
-  answer : PoolAnswer
+  answer : Result Dimensions Refusal
   answer = (pool_of a b (length joint) (length common)).answer
 
   told : (pool_number answer ≡ pool_refusal a b (length joint) (length common))

@@ -11,8 +11,9 @@
 --   lent size   == a buffer painted with 165s
 --   receiver, image == a receiver by its fields, entries of 0 after the given ones; and back
 -- Assumes nothing.
-use Rattle.std.specs.Prelude.{List, [], ◌∷◌, ◌++◌, ℕ, ◌*◌, ◌-◌, ◌^◌, length, replicate}
+use Rattle.std.specs.Prelude.{List, [], ◌∷◌, ◌++◌, ℕ, ◌*◌, ◌-◌, ◌^◌, length, replicate, Result}
 use Rattle.basics.specs.Sum.{bit}
+use Rattle.refusal.specs.declared.Refusal.{Refusal}
 use Rattle.settings.specs.Settings.{list_refusal, count_of, count_number, count_value}
 use Rattle.linear.specs.Eliminate.{join}
 use Rattle.ferrers.specs.Ferrers.{size, diagram, diagram_place, larger_diagrams, tableau_value}
@@ -24,13 +25,12 @@ use Rattle.number.specs.Number.{number_of, answer_number, answer_index}
 use Rattle.convert.specs.Convert.{convert_of}
 use Rattle.reduce.specs.Reduce.{reduce_of, reduce_buffer, reduction_number, reduction_dimension, reduction_vector}
 use Rattle.distance.specs.Distance.{distance_of, distance_number, distance_value}
-use Rattle.receive.specs.Answer.{received_number, received_index, received_dimension, received_vector}
+use Rattle.receive.specs.Answer.{Received, received_number, received_index, received_dimension, received_vector}
 use Rattle.receive.specs.Receive.{receive_of}
-use Rattle.receive.specs.declared.Received.{Received}
 use Rattle.receiver.specs.Receiver.{setup, offer, made, start_of, start_number, take_of, take_number, take_raised, take_idle}
 use Rattle.receiver.specs.Receiver.{lent_receiver, lent_answer, close_of}
 use Rattle.receiver.specs.declared.Receiver.{Receiver}
-use Rattle.receiver.specs.declared.TakeAnswer.{TakeAnswer}
+use Rattle.receiver.specs.declared.Effect.{Effect}
 use Rattle.promise_recovery.specs.Calls.{Call as ReceiverCall, begun, after, accepted}
 use Rattle.pool.specs.Pool.{pool_of, joint_buffer, common_buffer, pool_number, pool_joint, pool_common}
 use Rattle.pandrwyg.specs.Exported.{exported_number, exported_bytes}
@@ -70,7 +70,7 @@ abbrev received : Received → List ℕ
 received a = received_number a ∷ received_index a ∷ received_dimension a ∷ received_vector a ∷ []
 
 -- what Take tells
-abbrev takes : TakeAnswer → List ℕ
+abbrev takes : Result Effect Refusal → List ℕ
 takes a = take_number a ∷ bit (take_raised a) ∷ bit (take_idle a) ∷ []
 
 abbrev pub answer : Call → List ℕ

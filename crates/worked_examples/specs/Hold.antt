@@ -29,7 +29,7 @@ use Rattle.ferrers.specs.Laws.ShapeRank.{shape_size, shape_place, shape_tableau,
 use Rattle.linear.specs.Eliminate.{lead_of, eliminate, residue, monic, put_among, insert_residue, insert_row, insert_rows, reduced_rows, join}
 use Rattle.linear.specs.Eliminate.{in_span, reduced_of, dimension}
 use Rattle.linear.specs.Span.{combination_at, combination, InSpan, SameSpan, rows_of, HasDimension}
-use Rattle.refusal.specs.Refusal.{refuse_unless, first, unless_refused}
+use Rattle.refusal.specs.Refusal.{refuse_unless, first, unless_refused, among, named}
 use Rattle.numbering.specs.Numbering.{is_numbering, numbering_of, choice_refusal}
 use Rattle.draw.specs.Draw.{draw_refusal, draw_buffer}
 use Rattle.draw_batch.specs.Batch.{batch_refusal, draw_parts, draw_answers, batch_matrices, batch_answers}
@@ -89,6 +89,7 @@ unfolding place_after buffer_after listing_output column_names header lines_from
     padded refused_word refused_line reduce_of convert_refusal convert_of start_of well_formed held_rows holding take_refusal taken_in take_of
     close_refusal close_of bytes_of exported_refusal exported_number exported_of exported_bytes space_refusal joint_of joint_dimension wide wide_rows
     stacked right_halves common_rows common_of common_dimension alike pool_refusal pooled pool_of joint_buffer common_buffer after accepted
+    among named
 every = each (marked ++ (readings ++ refusals)) refl
 
 front : {P : Example → Type 0} (xs ys : List Example) → All P (xs ++ ys) → All P xs
