@@ -2,7 +2,10 @@
 --   refuse_unless b r == no refusal where the test b holds, else r
 --   first rs         == "The first that applies, in the order given, is returned": the first that is not 0, or 0
 --   unless_refused r done kept == what is answered or left: `done` where r is no refusal, else `kept`
---   number, named    == the number of a refusal; the first refusal with a number, Pack where none has it
+--   number           == the number of a refusal
+--   refusals         == every refusal
+--   among n rs       == the first of the refusals rs that has the number n, Pack where none has
+--   named n          == the refusal with the number n
 --   answered r done  == what a call answers: `done` where r is no refusal, else the refusal with the number r
 --   refusal_number   == the number of an answer: its refusal's, or 0
 -- Assumes nothing.
@@ -106,7 +109,6 @@ number Receiver = receiver_refusal
 number Mismatch = mismatch_refusal
 number Pack = pack_refusal
 
--- every refusal
 abbrev pub refusals : List Refusal
 refusals =
     FieldSize ∷ Range ∷ Count ∷ Length ∷ Index ∷ Entry ∷ NotReduced ∷ TooFew ∷ TooMany ∷ Numbering ∷ Line ∷ Listing ∷ RowCount ∷ Receiver
