@@ -76,7 +76,8 @@ fn draw_parts(
 }
 
 // Draws a list of indexes: the reduced matrix of each index of the numbering t goes to its k×n bytes of `matrices`, and 0 to its byte of
-// `answers`. An index of N or more leaves its k×n bytes, and its answer is 5. A refusal of the whole leaves both buffers. Refuses 1, 2, 3, 10, 4 (either buffer is not exactly as long as the list needs).
+// `answers`. An index of N or more leaves its k×n bytes, and its answer is 5. A refusal of the whole leaves both buffers. Refuses 1, 2, 3,
+// 10, 4 (either buffer is not exactly as long as the list needs).
 pub fn draw_batch(
     q: u64,
     n: u64,

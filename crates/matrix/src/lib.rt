@@ -9,15 +9,18 @@ ghost use Rattle.matrix.specs.Shape.{digit_at};
 ghost use Rattle.matrix.specs.Laws.Shape.{top_value};
 ghost use Rattle.matrix.specs.Laws.WriteColumn.{unit_at, Blank, Written};
 
-// The place, counted from `start`, of the first nonzero byte among the n bytes from there on; n where there is none.
+// The place, counted from `start`, of the first nonzero byte among the n bytes from there on; n where there is none. Without `position`: an
+// iterator hands out an optional reference, which lies elsewhere in memory on the 32-bit machines that compile the same module.
 pub fn lead(m: &[u8], start: usize, n: usize) -> usize
     requires { start + n ≤ length m.now }
     ensures { result ≡ lead_of (λ j. get_or m.now (start + j) 0) n }
 {
-    m[start..start + n]
-        .iter()
-        .position(|x| *x != 0)
-        .unwrap_or(n)
+    for j in 0..n {
+        if m[start + j] != 0 {
+            return j;
+        }
+    }
+    n
 }
 
 // The greatest byte; 0 where there is none. The loop has no way out, so that the compiler compares many bytes in one step.

@@ -21,7 +21,7 @@ pub enum Numbering {
     Ferrers,
 }
 
-// The numbering that a number stands for. Refuses 10.
+// The numbering that a number stands for. Refuses 10. The calls take a number, since each meets every number, with an answer or with 10.
 impl TryFrom<u64> for Numbering {
     type Error = Refusal;
 

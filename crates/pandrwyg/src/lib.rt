@@ -1,5 +1,6 @@
-// The raw functions for C, over numbers and slices: the pack's firmware calls Draw, the fleet server draws batches, the cabinet's daemon calls
-// Receive. `pandrwyg_c` exports them; include/pandrwyg.h puts an inline function in front of each, which keeps null pointers out.
+// The raw functions for C, over numbers and slices, which answer a refusal's number or 0: the pack's firmware calls Draw, the fleet server
+// draws batches, the cabinet's daemon calls Receive. `pandrwyg_c` exports them; include/pandrwyg.h puts an inline function in front of each,
+// which keeps null pointers out.
 #![tactic(auto)]
 
 ghost use Rattle.std.specs.Prelude.{◌≡◌, ◌<◌, length};

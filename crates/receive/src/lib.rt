@@ -47,7 +47,8 @@ impl From<Unreceived> for u32 {
     }
 }
 
-// The answer for a span, whose reduced matrix is given: its index where it has k dimensions, else too few or too many.
+// The answer for a span, whose reduced matrix is given: its index where it has k dimensions, else too few or too many. Here and below t stays
+// a number: both functions took every number, or every known one.
 pub fn space_answer(
     q: u64,
     n: u64,

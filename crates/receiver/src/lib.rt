@@ -16,7 +16,8 @@ use receive::Unreceived;
 use reduce::Space;
 use refusal::Refusal;
 
-// The first n×n entries hold the reduced rows, then zeros; so are all others. The pack is the one whose rows are taken.
+// The first n×n entries hold the reduced rows, then zeros; so are all others. The pack is the one whose rows are taken. An array with its
+// sizes beside: a receiver has fixed memory, and may be lent with any fields, which Take and Close test.
 #[derive(Clone, Copy)]
 pub struct Receiver {
     pub entries: [u8; 256],

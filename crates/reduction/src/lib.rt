@@ -1,4 +1,5 @@
-// Row reduction on lent bytes: matrices are flat, row by row, with n bytes a row.
+// Row reduction on lent bytes: matrices are flat, row by row, with n bytes a row. q, n, d, m and `pivots` stay parameters: docs/ name
+// `insert_rows` and `in_span`, which take them so, and between the steps inside the rows are in no state that a type could promise.
 #![tactic(auto)]
 
 ghost use Rattle.std.specs.Prelude.{◌≡◌, ◌++◌, ℕ, ◌+◌, ◌*◌, ◌-◌, ◌≤◌, ◌<◌, T, length, get_or, take, drop, replicate};
@@ -102,8 +103,8 @@ pub fn insert(q: u64, n: usize, d: usize, row: &[u8], m: &mut [u8], pivots: &mut
     insert_residue(q, n, d, row, m, pivots)
 }
 
-// Takes the `count` rows of `input` into the d reduced rows of m, which has room for n rows and holds zeros after them, and answers how
-// many there are now; it ends at n. `pivots` holds their leads.
+// `count` stays beside `input`, whose rows may have no bytes. Takes the `count` rows of `input` into the d reduced rows of m, which has room
+// for n rows and holds zeros after them, and answers how many there are now; it ends at n. `pivots` holds their leads.
 pub fn insert_rows(
     q: u64,
     n: usize,

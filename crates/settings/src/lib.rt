@@ -1,4 +1,5 @@
-// The settings q, n and k that are accepted, and how many spaces they have.
+// The settings q, n and k that are accepted, and how many spaces they have. They stay three numbers in the crates above: docs/ name functions
+// that take them so, and these may not ask for a type with an invariant instead.
 #![tactic(auto)]
 
 ghost use Rattle.std.specs.Prelude.{◌≡◌};

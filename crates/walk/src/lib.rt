@@ -16,7 +16,8 @@ pub struct Row {
 }
 
 // What is known of the rows that have ended: the least number above their entries, their codes joined bit by bit, the least column where
-// the next row's pivot may stand, whether they are reduced, and then their identifying vector, else 0.
+// the next row's pivot may stand, whether they are reduced, and then their identifying vector, else 0. The flag stays beside the vector: the
+// definitions of specs/Walk.antt are over these fields.
 #[derive(Clone, Copy)]
 pub struct Walk {
     pub bound: u32,

@@ -1,5 +1,5 @@
-// The line writer: it keeps the lent buffer, and how far that is filled. A piece that does not fit leaves both unchanged, and the answer
-// says so. Each method is thin: the work is done by the functions over a buffer and a place.
+// The line writer: it keeps the lent buffer, and how far that is filled; there is no heap for a `String`. A piece that does not fit leaves
+// both unchanged, and the answer says so. Each method is thin: the work is done by the functions over a buffer and a place.
 #![tactic(auto)]
 
 ghost use Rattle.std.specs.Prelude.{◌≡◌, [], ◌∷◌, ◌<◌};
