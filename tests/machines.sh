@@ -24,10 +24,12 @@ is_format() {
     esac
 }
 
-# No pointer becomes a number, and no number a pointer: then 64-bit lengths do for pointers of any width.
+# No pointer becomes a number, and no number a pointer; and no value has a pointer behind a narrower part, where a narrower pointer would stand
+# at another place. Then 64-bit lengths do for pointers of any width.
 is_portable() {
     "$tools/clang" --target=x86_64-unknown-linux-gnu -S -emit-llvm -x ir "$tools/module.bc" -o "$to/module.ll" &&
-        grep -q '^define .*@pandrwyg_draw_raw(' "$to/module.ll" && ! grep -E 'ptrtoint|inttoptr|addrspacecast' "$to/module.ll"
+        grep -q '^define .*@pandrwyg_draw_raw(' "$to/module.ll" && ! grep -E 'ptrtoint|inttoptr|addrspacecast' "$to/module.ll" &&
+        ! grep -E '[{] [^}]*(ptr|i1|i8|i16|i32), ptr' "$to/module.ll"
 }
 
 # docs/C.md tells the bytes of code and tables.
