@@ -1,15 +1,19 @@
 -- Laws of putting pieces in; no part of the meaning.
 --   refused, fitted    == what `append` answers and leaves of a piece that has no room, and of one that has
 --   buffer_after-length, buffer_with-length == the buffer stays as long as it is
+--   room-decided       == the code's two tests of the room are the one of `fits`
+--   front-put          == the front of a buffer in which two pieces are put one after the other
 --   copied             == what `append` leaves, where the buffer's bytes become the piece's
 --   with-room          == pieces that have room together stand one after the other
 --   pieces-put         == so at the buffer's front, with the rest as it was
 -- Assumes nothing.
-use Rattle.std.specs.Prelude.{◌≡◌, refl, Bool, true, false, List, [], ◌∷◌, ◌++◌, ℕ, ◌+◌, ◌-◌, ◌≤◌, length, take, drop}
-use Rattle.std.proofs.Common.{Some, None, ap, ap₂, ◌∙◌, append_assoc, add-zero, zero-add, add_assoc, le_refl, arith, length-append, drop-drop}
+use Rattle.std.specs.Prelude.{◌≡◌, refl, Bool, true, false, List, [], ◌∷◌, ◌++◌, ℕ, ◌+◌, ◌-◌, ◌≤◌, leb, length, take, drop}
+use Rattle.std.proofs.Common.{Some, None, ap, ap₂, ◌∙◌, append_assoc, append-nil, ⊎_elim, add-zero, zero-add, add_assoc, le_refl, arith, le-leb, length-append, drop-drop, take_at}
 use Rattle.std.proofs.Math.Path.{sym}
+use Rattle.std.proofs.lemmas.Bool.{lt-leb}
 use Rattle.std.proofs.Math.Seq.{paste, paste-zero, take-length}
 use Rattle.std.proofs.lemmas.List.Edits.{take-paste, drop-paste, length-paste}
+use Rattle.basics.specs.Laws.Order.{le-or-lt}
 use Rattle.text.specs.Piece.{fits, place_after, buffer_after, joined, place_with, buffer_with, Appended, Composed}
 use Rattle.text.proofs.Theorems.{piece-fits, fits-piece}
 
@@ -75,3 +79,19 @@ pub copied : (buffer : List ℕ) (at : ℕ) (piece part : List ℕ) → part ≡
 copied buffer at piece part e =
     let size : at + length piece - at ≡ length piece = omega arith in
     rw (e, size, drop-drop, take-length) (sym (append_assoc (take at buffer) piece (drop (at + length piece) buffer)))
+
+pub room-decided : (size at length : ℕ) → at ≤ size → leb length (size - at) ≡ leb (at + length) size
+room-decided size at length h =
+    ⊎_elim (λ l. le-leb length (size - at) (omega arith) ∙ sym (le-leb (at + length) size l))
+    (λ g. lt-leb length (size - at) (omega arith) ∙ sym (lt-leb (at + length) size g)) (le-or-lt (at + length) size)
+
+pub front-put : (buffer : List ℕ) (p : List ℕ) (q : List ℕ) (place : ℕ) (middle : List ℕ) (size : ℕ) (after : List ℕ)
+    → length p + length q ≤ length buffer
+    → place ≡ place_after (length buffer) 0 p → middle ≡ buffer_after buffer 0 p
+    → size ≡ place_after (length middle) place q → after ≡ buffer_after middle place q → take size after ≡ p ++ q
+front-put buffer p q place middle size after h at b s a =
+    let whole : joined (p ∷ q ∷ []) ≡ p ++ q = ap (λ t. p ++ t) (append-nil q) in
+    let room : length (joined (p ∷ q ∷ [])) ≤ length buffer = omega (arith, ap length whole, length-append p q) in
+    let r = pieces-put buffer (p ∷ q ∷ []) size after room
+    (s ∙ ap₂ (λ m l. place_after (length m) l q) b at, a ∙ ap₂ (λ m l. buffer_after m l q) b at) in
+    ap (take size) r.1 ∙ take_at (joined (p ∷ q ∷ [])) (drop (length (joined (p ∷ q ∷ []))) buffer) size (sym r.0) ∙ whole

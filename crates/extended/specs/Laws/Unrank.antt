@@ -3,22 +3,24 @@
 --                                      those of the matrix of `rows` rows with the index `rest`; v holds the bits of the columns from c on
 --   unranking-start, -end   == nothing is written yet, and all is
 --   unranking-vector        == then v is the identifying vector
---   pivot-asked             == the next column can be written as a pivot's
+--   free-asked, write-asked, pivot-asked == of the next column the counts can be asked, and it can be written
+--   bit-asked               == and its bit be added
 --   unranking-free, -pivot  == it is written, as a free one or as a pivot's
 --   each-positive, rows-positive == before a free column the count to divide by is above 0, before a pivot's a row is left
 -- Assumes nothing.
-use Rattle.std.specs.Prelude.{◌≡◌, List, ℕ, zero, suc, ◌+◌, ◌*◌, ◌-◌, ◌^◌, ◌/◌, ◌%◌, ◌<◌, ◌≤◌, length, replicate}
+use Rattle.std.specs.Prelude.{◌≡◌, List, ℕ, zero, suc, ◌+◌, ◌*◌, ◌-◌, ◌^◌, ◌/◌, ◌%◌, ◌<◌, ◌≤◌, T, length, replicate}
 use Rattle.std.proofs.Common.{ap, ◌∙◌, le_refl, le_trans, mod-lt, zero-lt-suc, arith}
 use Rattle.std.proofs.Math.Path.{sym}
+use Rattle.field.specs.Field.{is_field_size}
 use Rattle.field.specs.Laws.Small.{size_small}
 use Rattle.matrix.specs.Matrix.{identifying}
 use Rattle.matrix.specs.Laws.WriteColumn.{unit_at, Blank, Written}
 use Rattle.matrix.proofs.Laws.Vector.{vector}
-use Rattle.matrix.specs.Laws.Passed.{Passed, passed_start, passed-free, passed-pivot, passed-end}
+use Rattle.matrix.specs.Laws.Passed.{Passed, passed_start, passed-free, passed-pivot, passed-fits, passed-end}
 use Rattle.matrix.proofs.Laws.ShapeMatrix.{shape-vector}
 use Rattle.matrix.specs.Shape.{digit_at}
 use Rattle.matrix.specs.Laws.DrawColumns.{Drawing, drawing-start, drawing-blank, drawing-free, drawing-pivot, drawing-end}
-use Rattle.counts.specs.Gaussian.{gaussian, table_entry}
+use Rattle.counts.specs.Gaussian.{gaussian, greatest_count, table_entry}
 use Rattle.counts.specs.Laws.GaussianLaws.{gaussian-longer-le, gaussian-pivot-le}
 use Rattle.settings.specs.Laws.Accepted.{Accepted}
 use Rattle.counts.specs.Laws.GaussianLaws.{entry-within}
@@ -86,6 +88,13 @@ module _ {q n k i v columns c rows rest : ℕ} {m : List ℕ} (a : Accepted q n 
   here : n - 1 - c ≡ n - suc c
   here = omega arith
 
+  pub free-asked : T (is_field_size q) × (c < 16) × (rows ≤ 16) × (gaussian q (suc c) rows ≤ greatest_count)
+  free-asked =
+      (a.size, omega (arith, u.columns, a.narrow), omega (arith, u.few, a.dimension, a.narrow), le_trans u.count a.counted)
+
+  pub write-asked : T (is_field_size q) × (c < n) × (rows ≤ k) × (k * n ≤ length m) × Blank n k c rows m
+  write-asked = (a.size, u.columns, u.few, omega (arith, u.drawing.sized), drawing-blank rows u.drawing)
+
   shorter : gaussian q c rows ≤ gaussian q n k
   shorter = let size = size_small q a.size in le_trans (gaussian-longer-le q c rows (omega arith)) u.count
 
@@ -120,6 +129,9 @@ module _ {q n k i v columns c rows rest : ℕ} {m : List ℕ} (a : Accepted q n 
 
       pub pivot-asked : (c < n) × (rows - 1 < k) × (k * n ≤ length m) × Blank n k c 0 m
       pivot-asked = (u.columns, omega (arith, rows-positive, u.few), omega (arith, u.drawing.sized), drawing-blank 0 u.drawing)
+
+      pub bit-asked : (n ≤ 16) × (c < n) × (v + 2 ^ (n - 1 - c) < 2 ^ 16)
+      bit-asked = (a.narrow, u.columns, rw here (passed-fits a.narrow u.passed))
 
       pub unranking-pivot : {m' : List ℕ} → Written n k c (unit_at (rows - 1)) m m'
           → Unranking q n k i m' (v + 2 ^ (n - 1 - c)) c (rows - 1) (rest - free)

@@ -5,7 +5,8 @@
 --   Telling n k size place v c rows left earlier == v holds the bits of the columns from c on; of the diagrams of `left` dots in the
 --                            first c columns, with `rows` rows, the one at the place `earlier` is left
 --   telling-start, -end   == no column is passed yet, and all are
---   rows_left             == where the place is past the diagrams that begin with a free column, a row is left for the pivot
+--   free-next             == where the place is among the diagrams that begin with a free column, that column's dots are there
+--   rows_left, bit-asked  == where it is not, a row is left for the pivot, and its bit can be added
 --   telling-free, -pivot  == one more column is passed, a free one or a pivot's
 -- Assumes nothing.
 use Rattle.std.specs.Prelude.{◌≡◌, refl, Bool, true, false, ℕ, zero, suc, pred, ◌+◌, ◌*◌, ◌-◌, ◌^◌, ◌<◌, ◌≤◌, ltb}
@@ -13,7 +14,7 @@ use Rattle.std.proofs.Common.{ap, subst, arith, lt-ltb, le-ltb}
 use Rattle.basics.specs.Choice.{pick}
 use Rattle.matrix.specs.Shape.{Shape, free, pivot}
 use Rattle.matrix.proofs.Laws.Vector.{vector}
-use Rattle.matrix.specs.Laws.Passed.{Passed, passed_start, passed-free, passed-pivot, passed-end}
+use Rattle.matrix.specs.Laws.Passed.{Passed, passed_start, passed-free, passed-pivot, passed-fits, passed-end}
 use Rattle.partitions.specs.Laws.Box.{box-next, free_all}
 use Rattle.ferrers.specs.Laws.DiagramShape.{free-fits}
 use Rattle.partitions.specs.Laws.Less.{less-at}
@@ -100,6 +101,9 @@ module _ {n k size place v c rows left earlier : ℕ} (some : 0 < c) (f : ℕ) (
   here : Telling n k size place v (suc (c - 1)) rows left earlier
   here = subst (λ j. Telling n k size place v j rows left earlier) e t
 
+  pub free-next : earlier < f → rows ≤ left
+  free-next h = free-fits (c - 1) rows left earlier (omega arith)
+
   pub telling-free : earlier < f → Telling n k size place v (c - 1) rows (left - rows) earlier
   telling-free h = free_step n k size place v (c - 1) rows left earlier (omega arith) here
 
@@ -108,6 +112,9 @@ module _ {n k size place v c rows left earlier : ℕ} (some : 0 < c) (f : ℕ) (
 
   bit : n - 1 - (c - 1) ≡ n - suc (c - 1)
   bit = omega arith
+
+  pub bit-asked : n ≤ 16 → (n ≤ 16) × (c - 1 < n) × (v + 2 ^ (n - 1 - (c - 1)) < 2 ^ 16)
+  bit-asked narrow = (narrow, omega (arith, here.passed.columns), rw bit (passed-fits narrow here.passed))
 
   pub telling-pivot : f ≤ earlier → Telling n k size place (v + 2 ^ (n - 1 - (c - 1))) (c - 1) (rows - 1) left (earlier - f)
   telling-pivot h =

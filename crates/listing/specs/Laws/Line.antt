@@ -1,11 +1,12 @@
 -- Laws of a line; no part of the meaning.
+--   word_line s   == a line of one word
 --   line_text-length == how many bytes a line has: those of its two numbers and its rows, two commas and a line feed
 --   line-short   == a line of listable settings has at most 276 bytes
 --   drawn-is-reduced, ferrers-inside == the drawn matrix is reduced, and its Ferrers index is below the count
 --   line-nonempty == no line is empty
 --   digit-rows   == the drawn matrix is one of decimal digits, as its text asks, whatever stands behind it
 -- Assumes nothing.
-use Rattle.std.specs.Prelude.{◌≡◌, List, ◌++◌, ℕ, ◌+◌, ◌*◌, ◌≤◌, ◌<◌, length}
+use Rattle.std.specs.Prelude.{◌≡◌, List, [], ◌∷◌, ◌++◌, ℕ, ◌+◌, ◌*◌, ◌≤◌, ◌<◌, length}
 use Rattle.std.proofs.Common.{ap, ◌∙◌, ⊎_elim, mul-le-mul, arith, length-append}
 use Rattle.std.proofs.Math.ListN.{get_or-append}
 use Rattle.basics.specs.Laws.Order.{le-or-lt}
@@ -20,12 +21,15 @@ use Rattle.extended.specs.Drawn.{drawn_extended}
 use Rattle.extended.specs.Laws.Theorems.{drawn-reduced}
 use Rattle.ferrers.specs.Ferrers.{ferrers_index}
 use Rattle.ferrers.proofs.Theorems.{index-below-count}
-use Rattle.text.specs.Text.{numeral}
+use Rattle.text.specs.Text.{line_feed, numeral}
 use Rattle.rows_text.specs.Rows.{DigitRows, rows_text}
 use Rattle.text.specs.Laws.Numeral.{numeral-length}
 use Rattle.rows_text.specs.Laws.Rows.{rows_text-length}
 use Rattle.listing.specs.Line.{longest_line, line_text}
 use Rattle.listing.specs.Listing.{listing_line}
+
+abbrev pub word_line : List ℕ → List ℕ
+word_line s = s ++ (line_feed ∷ [])
 
 pub line_text-length : (extended ferrers n k : ℕ) (m : List ℕ)
     → length (line_text extended ferrers n k m) ≡ length (numeral extended) + length (numeral ferrers) + length (rows_text n k m) + 3

@@ -4,14 +4,16 @@
 --   first-held, second-held   == these are rows
 --   first_below, second_below == with entries below q
 --   stack-joined    == the stack that is made of them
+--   joint-length, joint-part, joint-pasted == the pooled receiver's entries, and those pasted into the joint buffer
 --   joint-front     == the pooled receiver's first entries, those copied into the joint buffer
 -- Assumes nothing.
 use Rattle.std.specs.Prelude.{◌≡◌, ℕ, ◌*◌, ◌≤◌, ◌<◌, T, get_or}
-use Rattle.std.proofs.Math.Path.{ap₂, sym}
+use Rattle.std.proofs.Math.Path.{ap, ap₂, sym}
 use Rattle.std.proofs.Common.{◌∙◌, subst, mul-le-mul_right, arith, length-take-le}
 use Rattle.std.proofs.Math.Bool.{true, false}
 use mathlib.Core.List.{List, ◌++◌}
 use Rattle.std.proofs.Math.ListN.{length, take}
+use Rattle.std.proofs.Math.Seq.{paste}
 use Rattle.field.specs.Field.{is_field_size}
 use Rattle.field.specs.FieldLaws.{Laws}
 use Rattle.settings.specs.Laws.Accepted.{accepted}
@@ -21,6 +23,7 @@ use Rattle.linear.specs.Laws.Every.{all_append}
 use Rattle.linear.specs.Laws.FlatRows.{join-append}
 use Rattle.linear.specs.Laws.ReducedOf.{reduced_of-reduced, dimension-le}
 use Rattle.reduction.specs.Padded.{padded}
+use Rattle.reduction.specs.Laws.Insert.{padded-length}
 use Rattle.spaces.specs.Spaces.{wide_rows, stacked, joint_of}
 use Rattle.receiver.specs.Receiver.{setup_of, well_formed, held_rows, holding}
 use Rattle.receiver.specs.Laws.Held.{settings-laws, held-used, held_kept}
@@ -28,7 +31,7 @@ use Rattle.receiver.specs.Laws.Sound.{Sound, sound, used-fit}
 use Rattle.receiver.specs.declared.Receiver.{Receiver}
 use Rattle.pool.specs.Pool.{alike}
 use Rattle.pool.specs.Laws.PoolAccepted.{alike-setups}
-use Rattle.double_rows.specs.Laws.Fill.{padded-front}
+use Rattle.double_rows.specs.Laws.Fill.{padded-front, paste-whole}
 
 module _ (r : Receiver) (size : length r.entries ≡ 256) (s : Sound r) where
   used-rows : rows_of r.n r.dimension (take (r.dimension * r.n) r.entries) ≡ held_rows r
@@ -126,3 +129,19 @@ module _ (a b : Receiver) (whole-a : length a.entries ≡ 256) (whole-b : length
   unfolding holding joint_of
   joint-front size entries sized is =
       ap₂ (λ (x : ℕ) (y : List ℕ). take x y) sized is ∙ padded-front (a.n * a.n) 256 _ joint-fits square-fits
+
+  module _ (old entries : List ℕ) (size : length old ≡ a.n * a.n)
+      (is : entries ≡ (holding (setup_of a) (held_rows a ++ held_rows b)).entries) where
+    pub joint-length : length entries ≡ 256
+    unfolding holding
+    joint-length = ap length is ∙ padded-length 256 _ (omega (arith, joint-fits, square-fits))
+
+    pub joint-part : length (take (length old) entries) ≡ length old
+    joint-part = length-take-le (length old) entries (omega (arith, size, square-fits, joint-length))
+
+    pub joint-pasted : paste old 0 (take (length old) entries) (length (take (length old) entries))
+        ≡ padded (a.n * a.n) (joint_of a.q a.n (held_rows a) (held_rows b))
+    unfolding holding joint_of
+    joint-pasted =
+        paste-whole old (take (length old) entries) joint-part ∙ ap₂ (λ (x : ℕ) (y : List ℕ). take x y) size is
+        ∙ padded-front (a.n * a.n) 256 _ joint-fits square-fits

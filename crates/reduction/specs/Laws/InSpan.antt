@@ -1,11 +1,11 @@
 -- A row behind another in lent bytes, eliminated with the rows of a matrix, one after the other; no part of the meaning.
---   placed-length    == the length stays where a row is copied to the front
---   copied-part      == a row copied behind a place for another is read there
+--   placed-front, placed-behind == a row copied to the front is read there, and what stands behind it is as it was
+--   copied-part, copied-length == a row copied behind a place for another is read there, and the length stays
 --   Trying           == the residue, by the rows from row i on, of the row behind is by all rows that of the one that stood there before
 --   trying_start, trying-more, trying-end == before the first row, one row more, after the last
 --   trying-row       == row i is a row
 -- Assumes nothing.
-use Rattle.std.specs.Prelude.{◌≡◌, refl}
+use Rattle.std.specs.Prelude.{◌≡◌, refl, take}
 use Rattle.std.proofs.Math.Path.{ap, sym, subst}
 use Rattle.std.proofs.Common.{◌∙◌, arith}
 use mathlib.Core.List.{List}
@@ -18,15 +18,24 @@ use Rattle.linear.specs.Eliminate.{eliminate, residue}
 use Rattle.linear.specs.Laws.Elimination.{eliminate-row}
 use Rattle.linear.specs.Laws.FlatRows.{rows_from, rows_all, rows_next, rows_none, rows-each}
 use Rattle.rows.specs.Laws.Steps.{part, put}
-use Rattle.rows.specs.Laws.Puts.{pasted, put-length, part-put}
+use Rattle.rows.specs.Laws.Puts.{pasted, put-length, part-put, after-put}
 
 module _ (n : ℕ) (r work : List ℕ) (lr : length r ≡ n) (room : n + n ≤ length work) where
   pub placed-length : length (put n 0 r work) ≡ length work
   placed-length = put-length n 0 r work lr (omega arith)
 
+  pub placed-front : part n 0 (put n 0 r work) ≡ r
+  placed-front = part-put n 0 r work lr (omega arith)
+
+  pub placed-behind : part n n (put n 0 r work) ≡ part n n work
+  placed-behind = ap (take n) (after-put n 0 r work lr (omega arith) n (omega arith))
+
 module _ (n : ℕ) (w m x : List ℕ) (lw : length w ≡ n) (e : x ≡ paste m n w (length w)) (room : n + n ≤ length m) where
   pub copied-part : part n n x ≡ w
   copied-part = ap (part n n) (e ∙ pasted n n w m lw) ∙ part-put n n w m lw room
+
+  pub copied-length : length x ≡ length m
+  copied-length = ap length (e ∙ pasted n n w m lw) ∙ put-length n n w m lw room
 
 pub record Trying (q n d : ℕ) (m before : List ℕ) (i : ℕ) (now : List ℕ) : Type 0 where
   pub within : i ≤ d

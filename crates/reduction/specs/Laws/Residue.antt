@@ -2,6 +2,7 @@
 --   Eliminating       == only row d has changed, and its residue by the rows from row i on is v's by all rows
 --   eliminating-none == where there are no rows
 --   eliminating-start == after the first row
+--   started-rows, started-fits, started-put == and what is as it was
 --   eliminating-row, eliminating-part == what eliminating with row i asks
 --   eliminating-more  == one row more
 --   eliminating-end   == after the last row
@@ -18,7 +19,7 @@ use Rattle.linear.specs.Eliminate.{eliminate, residue}
 use Rattle.linear.specs.Laws.Elimination.{eliminate-row}
 use Rattle.linear.specs.Laws.FlatRows.{rows_from, rows_all, rows_next, rows_none, rows-each}
 use Rattle.rows.specs.Laws.Steps.{part, put}
-use Rattle.rows.specs.Laws.Puts.{put-length, part-put, before-put, put-put}
+use Rattle.rows.specs.Laws.Puts.{put-length, part-put, before-put, rows-put, put-put}
 
 pub record Eliminating (q n d : ℕ) (m v : List ℕ) (i : ℕ) (now : List ℕ) : Type 0 where
   pub within : i ≤ d
@@ -102,3 +103,13 @@ module _ (q : ℕ) (laws : Laws q) (n d : ℕ) (m v : List ℕ) (fits : d * n + 
     where
       read : part n (d * n) now ≡ eliminate q n (part n 0 m) v
       read = ap (part n (d * n)) is ∙ part-put n (d * n) (eliminate q n (part n 0 m) v) m new_row.0 fits
+
+  module _ (now : List ℕ) (is : now ≡ put n (d * n) (eliminate q n (part n 0 m) v) m) where
+    pub started-rows : rows_of n d now ≡ rows_of n d m
+    started-rows = ap (rows_of n d) is ∙ rows-put n (d * n) (eliminate q n (part n 0 m) v) m new_row.0 fits d (omega arith)
+
+    pub started-fits : d * n + n ≤ length now
+    started-fits = omega (arith, ap length is, put-length n (d * n) (eliminate q n (part n 0 m) v) m new_row.0 fits)
+
+    pub started-put : (w : List ℕ) → put n (d * n) w now ≡ put n (d * n) w m
+    started-put w = ap (put n (d * n) w) is ∙ put-put n (d * n) (eliminate q n (part n 0 m) v) m new_row.0 fits w

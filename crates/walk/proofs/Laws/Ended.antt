@@ -1,12 +1,14 @@
 -- A row ended; no part of the meaning.
 --   Extends n w z   == the clauses of `extends`, as statements; extends-of, extends-true == it holds exactly where they do
+--   extends-unsound, -outside, -more, -left, -last == its tests in their order, each after those before it
+--   bounded-none, -more, -same == the bound with a row of no entry, with a greater entry, and with none
 --   ended-broken, ended-sound == what is known after the row, where it does not extend the rows above and where it does
 --   Room n w        == the vector has room for the pivots from column `least` on; room-walked == it always has
 -- Assumes nothing.
-use Rattle.std.specs.Prelude.{◌≡◌, refl, Bool, true, false, List, ℕ, zero, suc, ◌+◌, ◌*◌, ◌-◌, ◌^◌, ◌/◌, ◌%◌, ◌<◌, ◌≤◌, eqb, ltb, leb}
-use Rattle.std.proofs.Common.{ap, ◌∙◌, le_refl, zero-add, arith, pow_mono}
-use Rattle.std.proofs.Math.Nat.{sub-zero, pow-succ'}
-use borrow.Author.Tests.{lt-ltb, le-leb, eq-eqb}
+use Rattle.std.specs.Prelude.{◌≡◌, refl, Bool, true, false, List, ℕ, zero, suc, ◌+◌, ◌*◌, ◌-◌, ◌^◌, ◌/◌, ◌%◌, ◌<◌, ◌≤◌, max, eqb, ltb, leb}
+use Rattle.std.proofs.Common.{ap, sym, ◌∙◌, le_refl, zero-add, arith, pow_mono}
+use Rattle.std.proofs.Math.Nat.{sub-zero, max_comm, max-eq_left, pow-succ'}
+use borrow.Author.Tests.{lt-ltb, le-ltb, le-leb, lt-leb, eq-eqb, ne_eqb}
 use Rattle.std.specs.Int.Bits.{bit_or}
 use Rattle.std.specs.Int.Count.{count_trailing_zeros}
 use Rattle.std.proofs.Math.Dec.{eqb→eq, ltb→lt, leb→le}
@@ -25,6 +27,29 @@ pub record Extends (n : ℕ) (w : Walk) (z : ℕ) : Type 0 where
   pub clear : w.code / 2 ^ z % 4 ≡ 0
 
 module _ (n : ℕ) (w : Walk) (z : ℕ) where
+  pub extends-unsound : w.reduced ≡ false → false ≡ extends n w z
+  unfolding extends
+  extends-unsound e = rw e
+
+  module _ (sound : w.reduced ≡ true) where
+    pub extends-outside : n ≤ z / 2 → false ≡ extends n w z
+    unfolding extends
+    extends-outside h = rw (sound, le-ltb (z / 2) n h)
+
+    module _ (inside : z / 2 < n) where
+      pub extends-more : (z % 2 ≡ 0 → ⊥) → false ≡ extends n w z
+      unfolding extends
+      extends-more h = rw (sound, lt-ltb (z / 2) n inside, ne_eqb (z % 2) 0 h)
+
+      module _ (one : z % 2 ≡ 0) where
+        pub extends-left : z / 2 < w.least → false ≡ extends n w z
+        unfolding extends
+        extends-left h = rw (sound, lt-ltb (z / 2) n inside, eq-eqb (z % 2) 0 one, lt-leb w.least (z / 2) h)
+
+        pub extends-last : w.least ≤ z / 2 → eqb (w.code / 2 ^ z % 4) 0 ≡ extends n w z
+        unfolding extends
+        extends-last h = rw (sound, lt-ltb (z / 2) n inside, eq-eqb (z % 2) 0 one, le-leb w.least (z / 2) h)
+
   pub extends-of : extends n w z ≡ true → Extends n w z
   unfolding extends
   extends-of e =
@@ -49,6 +74,20 @@ module _ (n : ℕ) (w : Walk) (z : ℕ) where
         le-leb w.least (z / 2) x.right,
         eq-eqb (w.code / 2 ^ z % 4) 0 x.clear,
       )
+
+module _ (w : Walk) (r : Row) where
+  pub bounded-none : r.column ≡ 0 → w.bound ≡ bounded w r
+  bounded-none e = rw (le-ltb 0 r.column (omega arith))
+
+  module _ (some : r.column ≡ 0 → ⊥) where
+    joined : bounded w r ≡ max w.bound (suc r.greatest)
+    joined = rw (lt-ltb 0 r.column (omega (arith, some)))
+
+    pub bounded-more : w.bound ≤ r.greatest → suc r.greatest ≡ bounded w r
+    bounded-more h = sym (joined ∙ max_comm w.bound (suc r.greatest) ∙ max-eq_left (omega arith))
+
+    pub bounded-same : r.greatest < w.bound → w.bound ≡ bounded w r
+    bounded-same h = sym (joined ∙ max-eq_left (omega arith))
 
 module _ (width n : ℕ) (w : Walk) (r : Row) (z : ℕ) (lowest : z ≡ count_trailing_zeros width r.code) where
   pub ended-broken : extends n w z ≡ false → (b : ℕ) → b ≡ bounded w r
