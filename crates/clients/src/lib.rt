@@ -52,7 +52,14 @@ pub fn all_counts() -> [u64; 1734]
     counts::all_counts()
 }
 
-pub fn draw_one(q: u64, n: u64, k: u64, t: u64, index: u64, matrix: &mut [u8]) -> Result<(), Refusal>
+pub fn draw_one(
+    q: u64,
+    n: u64,
+    k: u64,
+    t: u64,
+    index: u64,
+    matrix: &mut [u8],
+) -> Result<(), Refusal>
     ensures value { refusal_number result ≡ draw_refusal q n k t index (length matrix.old) }
     ensures matrix_after { matrix.new ≡ draw_buffer q n k t index matrix.old }
 {
@@ -94,7 +101,13 @@ pub fn convert_one(q: u64, n: u64, k: u64, from: u64, to: u64, index: u64) -> Re
     convert::convert(q, n, k, from, to, index)
 }
 
-pub fn reduce_rows(q: u64, n: u64, row_count: u64, rows: &[u8], output: &mut [u8]) -> Result<Space, Refusal>
+pub fn reduce_rows(
+    q: u64,
+    n: u64,
+    row_count: u64,
+    rows: &[u8],
+    output: &mut [u8],
+) -> Result<Space, Refusal>
     ensures value { result ≡ reduce_of q n row_count rows.now (length output.old) }
     ensures output_after { output.new ≡ reduce_buffer q n row_count rows.now output.old }
     ensures result_value { (reduction_number result ≡ reduce_refusal q n row_count rows.now (length output.old))
@@ -123,7 +136,14 @@ pub fn distance_of_rows(
     distance::distance(q, n, first_count, first, second_count, second)
 }
 
-pub fn receive_rows(q: u64, n: u64, k: u64, t: u64, row_count: u64, rows: &[u8]) -> Result<(Index, Space), Unreceived>
+pub fn receive_rows(
+    q: u64,
+    n: u64,
+    k: u64,
+    t: u64,
+    row_count: u64,
+    rows: &[u8],
+) -> Result<(Index, Space), Unreceived>
     ensures value { result ≡ receive_of q n k t row_count rows.now }
     ensures told { Told q n k t (dimension_of q n (rows_of n row_count rows.now))
         (reduced_of q n (rows_of n row_count rows.now)) (receive_refusal q n k t row_count rows.now) result }
