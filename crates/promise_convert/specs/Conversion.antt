@@ -19,7 +19,9 @@ use Rattle.numbering.specs.Laws.Either.{either, typed-value}
 use Rattle.drawing.specs.Drawing.{drawing}
 use Rattle.drawing.specs.Laws.Draws.{draws}
 use Rattle.number.specs.Number.{number_of, answer_index}
-use Rattle.std.specs.Prelude.{Ok}
+use Rattle.std.specs.Prelude.{Result, Ok}
+use Rattle.refusal.specs.declared.Refusal.{Refusal}
+use Rattle.numbering.specs.declared.Index.{Index}
 use Rattle.number.proofs.NumberAccepted.{reduced-numbered}
 use Rattle.convert.specs.Convert.{convert_of}
 use Rattle.convert.specs.Laws.ConvertAccepted.{convert-unrefused, convert-done}
@@ -55,7 +57,7 @@ converted-as-numbered q n k from to settings first second i h b sized =
     ∙ ap (number_of q n k to) ((draws q n k from settings first).given i h b sized)
 
 -- an answer tells one index
-pub done-index : (t i j : ℕ) → Ok (index_in t i) ≡ Ok (index_in t j) → i ≡ j
+pub done-index : (t i j : ℕ) → ◌≡◌ {A = Result Index Refusal} (Ok (index_in t i)) (Ok (index_in t j)) → i ≡ j
 done-index t i j e = sym (typed-value t i) ∙ ap answer_index e ∙ typed-value t j
 
 pub there_and_back : (q n k from to : ℕ) → settings_refusal q n k ≡ 0 → is_numbering from ≡ true → is_numbering to ≡ true

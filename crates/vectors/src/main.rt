@@ -7,7 +7,10 @@ use std::io;
 fn count(rt: &impl Print, q: u64, n: u64, k: u64) -> io::Result<()> {
     match settings::count(q, n, k) {
         Ok(count) => println!(rt; "count {q},{n},{k}: {count}"),
-        Err(refusal) => println!(rt; "count {q},{n},{k}: refused {}", u32::from(refusal)),
+        Err(refusal) => println!(rt;
+            "count {q},{n},{k}: refused {}",
+            refusal::number_of(Err(refusal))
+        ),
     }
 }
 
