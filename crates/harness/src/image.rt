@@ -29,8 +29,9 @@ pub struct Step {
 
 impl From<Receiver> for Image {
     fn from(receiver: Receiver) -> Image {
+        let entries = receiver.entries;
         Image {
-            entries: receiver.entries,
+            entries,
             q: receiver.q,
             n: receiver.n,
             k: receiver.k,
@@ -47,8 +48,9 @@ fn pack_of(pack: u64) -> u16 {
 
 impl From<Image> for Receiver {
     fn from(image: Image) -> Receiver {
+        let entries = image.entries;
         Receiver {
-            entries: image.entries,
+            entries,
             q: image.q,
             n: image.n,
             k: image.k,
