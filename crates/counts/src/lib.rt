@@ -24,7 +24,7 @@ pub fn nearer(limit: u64, m: u64) -> u64
     requires { m ≤ limit }
     ensures { result ≡ nearer_end limit m }
 {
-    m.min(limit - m)
+    (limit - m).min(m)
 }
 
 // The place of n and of the smaller of k and n - k among all pairs of a row length and a number up to its half. Small products are made in 32

@@ -4,10 +4,9 @@
 ghost use Rattle.std.specs.Prelude.{◌≡◌, ◌*◌, length};
 ghost use Rattle.refusal.specs.Refusal.{refusal_number};
 ghost use Rattle.counts.specs.Gaussian.{gaussian};
-ghost use Rattle.numbering.specs.Numbering.{code, choice_refusal};
+ghost use Rattle.numbering.specs.Numbering.{choice_refusal};
 ghost use Rattle.draw.specs.Draw.{draw_refusal, draw_buffer};
 
-use numbering::Numbering;
 use refusal::Refusal;
 
 // Draw past its tests of settings, numbering and length: writes the reduced matrix with the given index, or leaves the buffer where the index
@@ -17,18 +16,18 @@ pub fn draw_index(
     q: u64,
     n: usize,
     k: usize,
-    t: Numbering,
+    t: u64,
     total: u64,
     index: u64,
 ) -> Result<(), Refusal>
-    requires { (choice_refusal q n k (code t) ≡ 0) × (total ≡ gaussian q n k) × (length matrix.old ≡ k * n) }
-    ensures value { refusal_number result ≡ draw_refusal q n k (code t) index (k * n) }
-    ensures matrix_after { matrix.new ≡ draw_buffer q n k (code t) index matrix.old }
+    requires { (choice_refusal q n k t ≡ 0) × (total ≡ gaussian q n k) × (length matrix.old ≡ k * n) }
+    ensures value { refusal_number result ≡ draw_refusal q n k t index (k * n) }
+    ensures matrix_after { matrix.new ≡ draw_buffer q n k t index matrix.old }
 {
     if total <= index {
         return Err(Refusal::Index);
     }
-    t.unrank(matrix, q, n, k, index);
+    numbering::unrank(matrix, q, n, k, t, index);
     Ok(())
 }
 
@@ -38,10 +37,10 @@ pub fn draw(q: u64, n: u64, k: u64, t: u64, index: u64, matrix: &mut [u8]) -> Re
     ensures value { refusal_number result ≡ draw_refusal q n k t index (length matrix.old) }
     ensures matrix_after { matrix.new ≡ draw_buffer q n k t index matrix.old }
 {
-    let numbering = numbering::check(q, n, k, t)?;
+    numbering::check(q, n, k, t)?;
     if matrix.len() as u64 != k * n {
         return Err(Refusal::Length);
     }
     let total = counts::coefficient(q, n, k);
-    draw_index(matrix, q, n as usize, k as usize, numbering, total, index)
+    draw_index(matrix, q, n as usize, k as usize, t, total, index)
 }

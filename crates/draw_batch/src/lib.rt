@@ -1,12 +1,11 @@
 // Draw over a list of indexes with the same settings.
 #![tactic(auto)]
 
-ghost use Rattle.std.specs.Prelude.{◌≡◌, ◌*◌, eqb, length, IfOk};
+ghost use Rattle.std.specs.Prelude.{◌≡◌, ◌*◌, eqb, length};
 ghost use Rattle.refusal.specs.Refusal.{refusal_number};
-ghost use Rattle.numbering.specs.Numbering.{code, choice_refusal};
+ghost use Rattle.numbering.specs.Numbering.{choice_refusal};
 ghost use Rattle.draw_batch.specs.Batch.{batch_refusal, draw_parts, draw_answers, batch_matrices, batch_answers};
 
-use numbering::Numbering;
 use refusal::Refusal;
 
 // Whether `length` is `count` times `size`. The product may need more than 64 bits, so the length is divided.
@@ -19,7 +18,7 @@ fn is_product(length: usize, count: usize, size: usize) -> bool
     length / size == count && length % size == 0
 }
 
-// Tests the choice, which it answers, and the lengths: the first refusal of the whole list that applies.
+// Tests the choice and the lengths: the first refusal of the whole list that applies.
 fn check(
     q: u64,
     n: u64,
@@ -28,15 +27,14 @@ fn check(
     count: usize,
     matrices: usize,
     answers: usize,
-) -> Result<Numbering, Refusal>
-    ensures refusal { refusal_number result ≡ batch_refusal q n k t count matrices answers }
-    ensures chosen { IfOk result (λ c. code c ≡ t) }
+) -> Result<(), Refusal>
+    ensures { refusal_number result ≡ batch_refusal q n k t count matrices answers }
 {
-    let numbering = numbering::check(q, n, k, t)?;
+    numbering::check(q, n, k, t)?;
     if !is_product(matrices, count, (k * n) as usize) || answers != count {
         return Err(Refusal::Length);
     }
-    Ok(numbering)
+    Ok(())
 }
 
 // The answer byte of one Draw.
@@ -54,22 +52,22 @@ fn draw_parts(
     q: u64,
     n: usize,
     k: usize,
-    t: Numbering,
+    t: u64,
     indexes: &[u64],
     matrices: &mut [u8],
     answers: &mut [u8],
 )
-    requires { (choice_refusal q n k (code t) ≡ 0) × (length matrices.old ≡ length indexes.now * (k * n))
+    requires { (choice_refusal q n k t ≡ 0) × (length matrices.old ≡ length indexes.now * (k * n))
         × (length answers.old ≡ length indexes.now) }
-    ensures matrices_after { matrices.new ≡ draw_parts q n k (code t) indexes.now matrices.old }
-    ensures answers_after { answers.new ≡ draw_answers q n k (code t) indexes.now }
+    ensures matrices_after { matrices.new ≡ draw_parts q n k t indexes.now matrices.old }
+    ensures answers_after { answers.new ≡ draw_answers q n k t indexes.now }
 {
     let total = counts::coefficient(q, n as u64, k as u64);
     let size = k * n;
     let mut at = 0;
-    for (place, &index) in indexes.iter().enumerate() {
+    for place in 0..indexes.len() {
         let end = at + size;
-        let drawn = draw::draw_index(&mut matrices[at..end], q, n, k, t, total, index);
+        let drawn = draw::draw_index(&mut matrices[at..end], q, n, k, t, total, indexes[place]);
         answers[place] = answer_of(drawn);
         at = end;
     }
@@ -94,9 +92,7 @@ pub fn draw_batch(
     ensures answers_after { answers.new
         ≡ batch_answers q n k t indexes.now (length matrices.old) answers.old }
 {
-    let numbering = check(q, n, k, t, indexes.len(), matrices.len(), answers.len())?;
-    draw_parts(
-        q, n as usize, k as usize, numbering, indexes, matrices, answers,
-    );
+    check(q, n, k, t, indexes.len(), matrices.len(), answers.len())?;
+    draw_parts(q, n as usize, k as usize, t, indexes, matrices, answers);
     Ok(())
 }

@@ -28,8 +28,8 @@ pub fn greatest(m: &[u8]) -> u8
     ensures { (q : ℕ) → 0 < q → ltb result q ≡ entries_below q m.now }
 {
     let mut greatest: u8 = 0;
-    for &x in m {
-        greatest = greatest.max(x);
+    for place in 0..m.len() {
+        greatest = greatest.max(m[place]);
     }
     greatest
 }
@@ -119,7 +119,7 @@ pub fn write_digits(m: &mut [u8], q: u64, n: usize, k: usize, c: usize, rows: us
 {
     let mut rest = x;
     let mut start = rows * n;
-    for _ in 0..rows {
+    for _ in (0..rows).rev() {
         let parted = part_digit(q, rest);
         start -= n;
         m[start + c] = parted.last;
@@ -140,7 +140,9 @@ pub fn write_pivot(m: &mut [u8], n: usize, k: usize, c: usize, row: usize)
 pub fn clear(m: &mut [u8])
     ensures { m.new ≡ replicate (length m.old) 0 }
 {
-    m.fill(0);
+    for x in m.iter_mut() {
+        *x = 0;
+    }
 }
 
 // x, with the first `rows` entries of column c as base-q digits after it, top row first.
@@ -162,8 +164,8 @@ pub fn vector_of(m: &[u8], pivots: &[u8], n: usize, k: usize) -> u16
     ensures { result ≡ vector_of n k m.now }
 {
     let mut vector: u16 = 0;
-    for &p in &pivots[..k] {
-        vector = add_pivot(vector, n, p as usize);
+    for row in 0..k {
+        vector = add_pivot(vector, n, pivots[row] as usize);
     }
     vector
 }

@@ -15,7 +15,7 @@ pub fn number(q: u64, n: u64, k: u64, t: u64, matrix: &[u8]) -> Result<Index, Re
     ensures result_value { (answer_number result ≡ number_refusal q n k t matrix.now)
         × (answer_index result ≡ unless_refused (number_refusal q n k t matrix.now) (index_of q n k t matrix.now) 0) }
 {
-    let numbering = numbering::check(q, n, k, t)?;
+    numbering::check(q, n, k, t)?;
     if matrix.len() as u64 != k * n {
         return Err(Refusal::Length);
     }
@@ -26,5 +26,5 @@ pub fn number(q: u64, n: u64, k: u64, t: u64, matrix: &[u8]) -> Result<Index, Re
     if !walked.reduced {
         return Err(Refusal::NotReduced);
     }
-    Ok(numbering.rank(matrix, q, n as usize, k as usize, walked.vector))
+    Ok(numbering::rank(matrix, q, n as usize, k as usize, t, walked.vector))
 }

@@ -14,6 +14,11 @@ use extended::ExtendedIndex;
 use ferrers::FerrersIndex;
 use refusal::Refusal;
 
+// The numbers of the two numberings, as the calls take them.
+pub const EXTENDED: u64 = 1;
+
+pub const FERRERS: u64 = 2;
+
 // The numberings of document 01.
 #[derive(Clone, Copy, Debug, PartialEq, Eq)]
 pub enum Numbering {
@@ -29,8 +34,8 @@ impl TryFrom<u64> for Numbering {
 
     fn try_from(t: u64) -> Result<Self, Refusal> {
         match t {
-            1 => Ok(Numbering::Extended),
-            2 => Ok(Numbering::Ferrers),
+            EXTENDED => Ok(Numbering::Extended),
+            FERRERS => Ok(Numbering::Ferrers),
             _ => Err(Refusal::Numbering),
         }
     }
@@ -148,7 +153,10 @@ impl Numbering {
 fn read_as(t: u64) -> Numbering
     ensures { eqb (code result) 1 ≡ eqb t 1 }
 {
-    Numbering::try_from(t).unwrap_or(Numbering::Ferrers)
+    if t == EXTENDED {
+        return Numbering::Extended;
+    }
+    Numbering::Ferrers
 }
 
 // Whether t is one of the two numberings.

@@ -19,6 +19,7 @@ use Rattle.linear.specs.Laws.ReducedRows.{reduced-rows}
 use Rattle.numbering.specs.Numbering.{is_numbering}
 use Rattle.drawing.specs.Drawing.{drawing}
 use Rattle.receiver.specs.Receiver.{Setup, Offer, setup, offer, setup_refusal, take_of, taken_as, lent_receiver, lent_answer, take_idle, close_of}
+use Rattle.receiver.specs.Receiver.{take_number}
 use Rattle.receiver.specs.Laws.Held.{settings-laws, holding-size}
 use Rattle.receiver.specs.declared.Receiver.{Receiver}
 use Rattle.receiver.specs.declared.Taken.{Taken}
@@ -80,9 +81,9 @@ pub order-5 : (q n k own : ℕ) → settings_refusal q n k ≡ 0 → let s = set
     -- (And "raised" a row that isn't. A row of another pack is refused 17, zeros too, and what is no row of n entries, each below q, is
     -- refused as ever.)
     × ((t.answer ≡ Ok Raised) ↔ ((pack ≡ own) × Row q n row × (InSpan q n (accepted (begun s) cs) row → ⊥)))
-    × ((t.answer ≡ Err Pack) ↔ (pack ≡ own → ⊥))
-    × (pack ≡ own → (length row ≡ n → ⊥) → t.answer ≡ Err Length)
-    × (pack ≡ own → length row ≡ n → (Row q n row → ⊥) → t.answer ≡ Err Entry)
+    × (((t.answer ≡ Err Pack) × (take_number t.answer ≡ 17)) ↔ (pack ≡ own → ⊥))
+    × (pack ≡ own → (length row ≡ n → ⊥) → (t.answer ≡ Err Length) × (take_number t.answer ≡ 4))
+    × (pack ≡ own → length row ≡ n → (Row q n row → ⊥) → (t.answer ≡ Err Entry) × (take_number t.answer ≡ 6))
     -- The receiver's content is untouched in both cases, (as a whole, and refused too; "raised" its dimension grows by one,)
     × ((t.answer ≡ Ok Raised → ⊥) → t.receiver ≡ after (begun s) cs)
     × (t.answer ≡ Ok Raised → t.receiver.dimension ≡ suc (after (begun s) cs).dimension))

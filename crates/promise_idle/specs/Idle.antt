@@ -12,7 +12,7 @@
 use Rattle.std.specs.Prelude.{◌≡◌, List, [], ◌∷◌, ◌↔◌, ℕ, suc, length, replicate, Ok, Err}
 use Rattle.refusal.specs.declared.Refusal.TheVariants.{Length, Entry, Pack}
 use Rattle.linear.specs.Span.{Row, InSpan}
-use Rattle.receiver.specs.Receiver.{Setup, Offer, offer, take_of, taken_as, lent_receiver, lent_answer}
+use Rattle.receiver.specs.Receiver.{Setup, Offer, offer, take_of, take_number, taken_as, lent_receiver, lent_answer}
 use Rattle.receiver.specs.declared.Receiver.{Receiver}
 use Rattle.receiver.specs.declared.Taken.{Taken}
 use Rattle.receiver.specs.declared.Effect.TheVariants.{Raised, Held, Idle}
@@ -26,14 +26,14 @@ pub data TakenBy (r : Receiver) (o : Offer) : Taken → Type 0 where
   lent : TakenBy r o (taken_as (lent_receiver r o) (lent_answer r o))
 
 pub record Answered (s : Setup) (rows : List (List ℕ)) (r : Receiver) (o : Offer) (t : Taken) : Type 0 where
-  pub foreign : (t.answer ≡ Err Pack) ↔ (o.pack ≡ s.pack → ⊥)
+  pub foreign : ((t.answer ≡ Err Pack) × (take_number t.answer ≡ 17)) ↔ (o.pack ≡ s.pack → ⊥)
   pub raised : (t.answer ≡ Ok Raised)
       ↔ ((o.pack ≡ s.pack) × Row s.q s.n o.row × (InSpan s.q s.n rows o.row → ⊥))
   pub held : (t.answer ≡ Ok Held)
       ↔ ((o.pack ≡ s.pack) × (o.row ≡ zero_row s.n → ⊥) × InSpan s.q s.n rows o.row)
   pub idle : (t.answer ≡ Ok Idle) ↔ ((o.pack ≡ s.pack) × (o.row ≡ zero_row s.n))
-  pub long : o.pack ≡ s.pack → (length o.row ≡ s.n → ⊥) → t.answer ≡ Err Length
-  pub large : o.pack ≡ s.pack → length o.row ≡ s.n → (Row s.q s.n o.row → ⊥) → t.answer ≡ Err Entry
+  pub long : o.pack ≡ s.pack → (length o.row ≡ s.n → ⊥) → (t.answer ≡ Err Length) × (take_number t.answer ≡ 4)
+  pub large : o.pack ≡ s.pack → length o.row ≡ s.n → (Row s.q s.n o.row → ⊥) → (t.answer ≡ Err Entry) × (take_number t.answer ≡ 6)
   pub grown : t.answer ≡ Ok Raised → t.receiver.dimension ≡ suc r.dimension
   pub untouched : (t.answer ≡ Ok Raised → ⊥) → t.receiver ≡ r
 

@@ -5,8 +5,8 @@
 --   order-8         == the order in one flat statement, under its words
 -- Assumes nothing.
 use Rattle.std.specs.Prelude.{◌≡◌, refl, true, List, ◌↔◌, ◌⊎◌, ℕ, ◌*◌, ◌<◌, length, Ok, Err}
-use Rattle.std.proofs.Common.{ap, sym, ◌∙◌, subst, inl, inr, arith}
-use Rattle.refusal.specs.Laws.First.{kept, named-number}
+use Rattle.std.proofs.Common.{ap, sym, ◌∙◌, subst, inl, inr}
+use Rattle.refusal.specs.Laws.First.{kept}
 use Rattle.refusal.specs.declared.Refusal.TheVariants.{Length, Entry, Pack}
 use Rattle.linear.specs.Span.{All, Among, Row, Mixed, rows_of}
 use Rattle.linear.specs.Laws.Every.{all_map, each-among}
@@ -16,6 +16,7 @@ use Rattle.reduce.specs.Reduce.{space_of}
 use Rattle.receiver.specs.Receiver.{Setup, Offer, setup, offer, setup_refusal, empty, start_of, well_formed, take_number}
 use Rattle.receiver.specs.Receiver.{close_refusal, close_of}
 use Rattle.receiver.specs.Laws.TakeAccepted.{take-accepted, take_long, take-large, take_row}
+use Rattle.receiver.specs.Laws.WellFormed.{formed-any-pack}
 use Rattle.receiver.specs.declared.Receiver.{Receiver}
 use Rattle.receiver.specs.declared.Taken.{Taken}
 use Rattle.promise_recovery.specs.Calls.{Call, begun, after, accepted, Reachable, offers, offered, fitting}
@@ -27,7 +28,7 @@ use Rattle.promise_recovery.proofs.Laws.Whole.{all-offers, among-offers, drawn-r
 use Rattle.promise_idle.specs.Idle.{TakenBy}
 use Rattle.promise_packs.specs.Packs.{repacked, Turns, InRack}
 use Rattle.promise_packs.specs.Laws.Turns.{turns-swap, turns-all, turns-among, offers-foreign}
-use Rattle.promise_packs.specs.Laws.Refuses.{number_of, refused-leaves, refused-by, forged-exactly, foreign-exactly}
+use Rattle.promise_packs.specs.Laws.Refuses.{number_of, refused-leaves, named-by, forged-exactly, foreign-exactly}
 
 -- one of the two receivers
 in-rack : (s : Setup) → setup_refusal s ≡ 0 → (os : List Offer) (cs : List Call) → offered cs ≡ os → InRack s os cs
@@ -43,25 +44,24 @@ in-rack s settings os cs given =
 -- what one accepts the other refuses
 refuses-other : (s other : Setup) → setup_refusal s ≡ 0 → setup_refusal other ≡ 0 → (s.pack ≡ other.pack → ⊥) → (cs ds : List Call)
     → (o : Offer) {t u : Taken} → TakenBy (after (begun s) cs) o t → TakenBy (after (begun other) ds) o u
-    → take_number t.answer ≡ 0 → u.answer ≡ Err Pack
+    → take_number t.answer ≡ 0 → (u.answer ≡ Err Pack) × (take_number u.answer ≡ 17)
 refuses-other s other settings others apart cs ds o by beside z =
     let r = after (begun s) cs in
     let r' = after (begun other) ds in
     let size = reachable-size (after-reachable s settings cs) in
     let reached = after-reachable other others ds in
     let a = take-accepted r o (sym (number_of r size o by) ∙ z) in
-    refused-by r' (reachable-size reached) o beside
+    named-by r' (reachable-size reached) o beside Pack
     ((foreign-exactly r' (reachable-size reached) o).1
     (reached, λ e. apart (sym (after-pack s settings cs) ∙ sym a.own ∙ e ∙ after-pack other others ds)))
-    (λ e. omega (arith, e))
-    ∙ ap Err (named-number Pack)
 
 pub rack : (s other : Setup) → setup_refusal s ≡ 0 → setup_refusal other ≡ 0 → (s.pack ≡ other.pack → ⊥)
     → (os : List Offer) (cs ds : List Call) → offered cs ≡ os → offered ds ≡ os
     → InRack s os cs
     × InRack other os ds
     × ((o : Offer) (t u : Taken) → TakenBy (after (begun s) cs) o t → TakenBy (after (begun other) ds) o u
-    → (take_number t.answer ≡ 0 → u.answer ≡ Err Pack) × (take_number u.answer ≡ 0 → t.answer ≡ Err Pack))
+    → (take_number t.answer ≡ 0 → (u.answer ≡ Err Pack) × (take_number u.answer ≡ 17))
+    × (take_number u.answer ≡ 0 → (t.answer ≡ Err Pack) × (take_number t.answer ≡ 17)))
 rack s other settings others apart os cs ds given both = (
   in-rack s settings os cs given,
   in-rack other others os ds both,
@@ -104,11 +104,6 @@ both-recovered s other settings others apart t u known knows i j h g b c l m os 
       turns-recovered other others u knows j g c m _ (offers-foreign s.pack other.pack apart mine) os (turns-swap turns) ds both,
     )
 
--- the pack number is read by no test of the receiver
-unread : (r : Receiver) (pack : ℕ) → well_formed (repacked r pack) ≡ well_formed r
-unfolding well_formed
-unread r pack = refl
-
 closes-alike : (r : Receiver) (pack t : ℕ) → close_of (repacked r pack) t ≡ close_of r t
 unfolding well_formed close_refusal close_of
 closes-alike r pack t = refl
@@ -128,8 +123,9 @@ pub order-8 :
     × ((r : Receiver) → length r.entries ≡ 256 → (pack : ℕ) (row : List ℕ) (t : Taken) → TakenBy r (offer pack row) t
     → ((take_number t.answer ≡ 14) ↔ (Reachable r → ⊥))
     × ((take_number t.answer ≡ 17) ↔ (Reachable r × (pack ≡ r.pack → ⊥)))
-    × (Reachable r → pack ≡ r.pack → (length row ≡ r.n → ⊥) → t.answer ≡ Err Length)
-    × (Reachable r → pack ≡ r.pack → length row ≡ r.n → (Row r.q r.n row → ⊥) → t.answer ≡ Err Entry)
+    × (Reachable r → pack ≡ r.pack → (length row ≡ r.n → ⊥) → (t.answer ≡ Err Length) × (take_number t.answer ≡ 4))
+    × (Reachable r → pack ≡ r.pack → length row ≡ r.n → (Row r.q r.n row → ⊥)
+    → (t.answer ≡ Err Entry) × (take_number t.answer ≡ 6))
     × (Reachable r → pack ≡ r.pack → Row r.q r.n row → take_number t.answer ≡ 0)
     × ((take_number t.answer ≡ 0 → ⊥) → t.receiver ≡ r))
     -- In a full rack the rows of two packs arrive by turns," (Let two receivers have different packs, each accepted settings of its own,
@@ -140,7 +136,8 @@ pub order-8 :
     → (accepted (begun s) cs ≡ fitting s os)
     × (accepted (begun other) ds ≡ fitting other os)
     × ((o : Offer) (t u : Taken) → TakenBy (after (begun s) cs) o t → TakenBy (after (begun other) ds) o u
-    → (take_number t.answer ≡ 0 → u.answer ≡ Err Pack) × (take_number u.answer ≡ 0 → t.answer ≡ Err Pack))
+    → (take_number t.answer ≡ 0 → (u.answer ≡ Err Pack) × (take_number u.answer ≡ 17))
+    × (take_number u.answer ≡ 0 → (t.answer ≡ Err Pack) × (take_number t.answer ≡ 17)))
     -- "In the promise about mixed rows, a row offered for another pack is one of the refused." (Where the rows that fit are mixed from one
     -- drawn matrix, each closes as demand 3 says, whatever came for the other.)
     × ((t : ℕ) → is_numbering t ≡ true → let D = drawing s.q s.n s.k t in
@@ -168,8 +165,8 @@ order-8 = (
   λ r size pack. (
     (
       λ h. (reachable-exactly-well-formed r size).1
-          (sym (unread r pack) ∙ (reachable-exactly-well-formed (repacked r pack) size).0 h),
-      λ h. (reachable-exactly-well-formed (repacked r pack) size).1 (unread r pack ∙ (reachable-exactly-well-formed r size).0 h),
+          (sym (formed-any-pack r pack) ∙ (reachable-exactly-well-formed (repacked r pack) size).0 h),
+      λ h. (reachable-exactly-well-formed (repacked r pack) size).1 (formed-any-pack r pack ∙ (reachable-exactly-well-formed r size).0 h),
     ),
     closes-alike r pack,
   ),
@@ -179,11 +176,11 @@ order-8 = (
         (λ e. (forged-exactly r size o).0 (sym number ∙ e), λ h. number ∙ (forged-exactly r size o).1 h),
         (λ e. (foreign-exactly r size o).0 (sym number ∙ e), λ x. number ∙ (foreign-exactly r size o).1 x),
         λ reached p l.
-            refused-by r size o by (take_long r o (formed r size reached) p l) (λ e. omega (arith, e)) ∙ ap Err (named-number Length),
+            named-by r size o by Length (take_long r o (formed r size reached) p l),
         λ reached p l h.
-            refused-by r size o by (take-large r o (formed r size reached) p l h) (λ e. omega (arith, e)) ∙ ap Err (named-number Entry),
+            named-by r size o by Entry (take-large r o (formed r size reached) p l h),
         λ reached p h. number ∙ take_row r o (formed r size reached) p h,
-        λ z. (refused-leaves r size o by (λ e. z (number ∙ e))).1,
+        λ z. (refused-leaves r size o by (λ e. z (number ∙ e))).2,
       ),
   λ s other settings others apart os cs ds given both.
       let x = rack s other settings others apart os cs ds given both in (

@@ -89,11 +89,8 @@ pub fn check_size(
 fn check(q: u64, n: u64, k: u64, t: u64, row_count: u64, rows: &[u8]) -> Result<(), Refusal>
     ensures { refusal_number result ≡ receive_refusal q n k t row_count rows.now }
 {
-    check_size(q, n, k, t, row_count, rows.len())?;
-    if !matrix::entries_below(rows, q) {
-        return Err(Refusal::Entry);
-    }
-    Ok(())
+    numbering::check(q, n, k, t)?;
+    reduce::check_rows(q, n, row_count, rows)
 }
 
 // The answer for rows that are not refused: they are reduced, and the reduced matrix is numbered.

@@ -11,7 +11,7 @@ ghost use Rattle.receiver.specs.Receiver.{take_refusal, taken_in, take_of, TakeT
 ghost use Rattle.receiver.specs.Receiver.{lent_receiver, lent_answer, taken_as, close_refusal, close_of};
 ghost use Rattle.receiver.specs.Laws.TakeAccepted.{TakeAccepted};
 
-use numbering::{Index, Numbering};
+use numbering::Index;
 use receive::Unreceived;
 use reduce::Space;
 use refusal::Refusal;
@@ -204,7 +204,9 @@ impl Receiver {
         ensures told { Told self.q self.n self.k t self.dimension (used self) (close_refusal self t) result }
     {
         let vector = self.formed().ok_or(Refusal::Receiver)?;
-        Numbering::try_from(t)?;
+        if !numbering::is_numbering(t) {
+            return Err(Unreceived::Refused(Refusal::Numbering));
+        }
         let size = (self.dimension * self.n) as usize;
         let space = Space {
             dimension: self.dimension,

@@ -4,50 +4,33 @@
 ghost use Rattle.std.specs.Prelude.{◌≡◌};
 ghost use Rattle.refusal.specs.Refusal.{number, refusal_number};
 
-// Why a call refuses.
+// Why a call refuses, with document 01's number. 15 is retired by order 4.
 #[derive(Clone, Copy, Debug, PartialEq, Eq)]
 pub enum Refusal {
-    FieldSize,
-    Range,
-    Count,
-    Length,
-    Index,
-    Entry,
-    NotReduced,
-    TooFew,
-    TooMany,
-    Numbering,
-    Line,
-    Listing,
-    RowCount,
-    Receiver,
-    Mismatch,
-    Pack,
+    FieldSize = 1,
+    Range = 2,
+    Count = 3,
+    Length = 4,
+    Index = 5,
+    Entry = 6,
+    NotReduced = 7,
+    TooFew = 8,
+    TooMany = 9,
+    Numbering = 10,
+    Line = 11,
+    Listing = 12,
+    RowCount = 13,
+    Receiver = 14,
+    Mismatch = 16,
+    Pack = 17,
 }
 
-// The number of a refusal. 15 is retired by order 4.
+// The number of a refusal.
 impl From<Refusal> for u8 {
     ghost from_gives = { λ r n. n ≡ number r };
 
     fn from(refusal: Refusal) -> u8 {
-        match refusal {
-            Refusal::FieldSize => 1,
-            Refusal::Range => 2,
-            Refusal::Count => 3,
-            Refusal::Length => 4,
-            Refusal::Index => 5,
-            Refusal::Entry => 6,
-            Refusal::NotReduced => 7,
-            Refusal::TooFew => 8,
-            Refusal::TooMany => 9,
-            Refusal::Numbering => 10,
-            Refusal::Line => 11,
-            Refusal::Listing => 12,
-            Refusal::RowCount => 13,
-            Refusal::Receiver => 14,
-            Refusal::Mismatch => 16,
-            Refusal::Pack => 17,
-        }
+        refusal as u8
     }
 }
 

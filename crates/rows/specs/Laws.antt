@@ -5,6 +5,7 @@ pub mod Puts
 pub mod Factor
 pub mod AddScaled
 pub mod Adding
+pub mod AddingEach
 pub mod Raise
 pub mod Monic
 pub mod Scaled

@@ -115,8 +115,8 @@ fn read_row(m: &[u8], n: usize, i: usize) -> Row
         greatest: 0,
         code: 0,
     };
-    for &x in &m[i * n..i * n + n] {
-        row = row.enter(x);
+    for j in 0..n {
+        row = row.enter(m[i * n + j]);
     }
     row
 }

@@ -23,7 +23,12 @@ pub overflow_shl-rest : goal.overflow_shl-rest
 overflow_shl-rest c = omega (arith, (stepped _ _ _ _ _ _ _ c.requires.0 (omega arith) (omega arith) (omega arith) c.next_pivot-j.ensures c.loop-i.invariant _ _ c.requires.2.1.1.0 c.requires.2.1.1.1).inside)
 
 pub overflow_sub-rest : goal.overflow_sub-rest
-overflow_sub-rest c = (stepped _ _ _ _ _ _ _ c.requires.0 (omega arith) (omega arith) (omega arith) c.next_pivot-j.ensures c.loop-i.invariant _ _ c.requires.2.1.1.0 c.requires.2.1.1.1).enough
+overflow_sub-rest c =
+    let next =
+    stepped _ _ _ _ _ _ _ c.requires.0 (omega arith) (omega arith) (omega arith) c.next_pivot-j.ensures c.loop-i.invariant _ _
+    c.requires.2.1.1.0 c.requires.2.1.1.1
+    in
+    omega (arith, next.enough)
 
 pub loop-i-preserved : goal.loop-i-preserved
 loop-i-preserved c q m r e = (stepped _ _ _ _ _ _ _ c.requires.0 (omega arith) (omega arith) (omega arith) c.next_pivot-j.ensures c.loop-i.invariant q m r e).next

@@ -11,7 +11,7 @@ use Rattle.walk.specs.declared.Walk.{Walk}
 use Rattle.walk.specs.Walk.{walked, oversized}
 use Rattle.walk.proofs.Laws.Whole.{whole-entries, whole-rows, whole-vector}
 use Rattle.refusal.specs.Laws.First.{number-positive}
-use Rattle.numbering.specs.Numbering.{choice_refusal, index_of, index_in}
+use Rattle.numbering.specs.Numbering.{choice_refusal}
 use Rattle.numbering.specs.Laws.Chosen.{chosen, accepted-bytes}
 use Rattle.number.proofs.NumberAccepted.{by-choice, by_length, by-entry, by_form, reduced-numbered, number-refused, number-told}
 use Rattle.number.proofs.number.Goals as goal
@@ -40,43 +40,32 @@ module _ (q n k t : ℕ) (m : List ℕ) (chose : choice_refusal q n k t ≡ 0) (
         ap (λ w. w.vector) e ∙ whole-vector 32 q n k m wide sized below
         ∙ ap (λ b. pick b (identifying n k m) 0) (sym rows-told ∙ r)
 
-pub returns-in_err-numbering-clause-value : goal.returns-in_err-numbering-clause-value
-returns-in_err-numbering-clause-value c =
+pub returns-in_err-check-clause-value : goal.returns-in_err-check-clause-value
+returns-in_err-check-clause-value c =
     let p = err_from_is_err_and c.from_residual.result c.from_residual.ensures.1 in
-    let told = c.in_err-numbering.ensures.refusal in
+    let told = c.in_err-check.ensures.refusal in
     rw (p.1, p.2) (number-refused _ _ _ _ _ _ (told ∙ sym (by-choice _ _ _ _ _ (λ z. number-positive _ (told ∙ z)))))
 
-pub returns-in_err-numbering-clause-result_value : goal.returns-in_err-numbering-clause-result_value
-returns-in_err-numbering-clause-result_value c = number-told _ _ _ _ _ _ (returns-in_err-numbering-clause-value c)
+pub returns-in_err-check-clause-result_value : goal.returns-in_err-check-clause-result_value
+returns-in_err-check-clause-result_value c = number-told _ _ _ _ _ _ (returns-in_err-check-clause-value c)
 
 pub overflow_mul-k : goal.overflow_mul-k
-overflow_mul-k c = omega (arith, accepted-bytes _ _ _ (chosen _ _ _ _ (sym c.in_ok-numbering.ensures.refusal)).settings)
+overflow_mul-k c = omega (arith, accepted-bytes _ _ _ (chosen _ _ _ _ (sym c.in_ok-check.ensures.refusal)).settings)
 
 pub returns-then-matrix-k-clause-value : goal.returns-then-matrix-k-clause-value
 returns-then-matrix-k-clause-value c =
-    number-refused _ _ _ _ _ _ (sym (by_length _ _ _ _ _ (sym c.in_ok-numbering.ensures.refusal) c.if-matrix-k.true))
+    number-refused _ _ _ _ _ _ (sym (by_length _ _ _ _ _ (sym c.in_ok-check.ensures.refusal) c.if-matrix-k.true))
 
 pub returns-then-matrix-k-clause-result_value : goal.returns-then-matrix-k-clause-result_value
 returns-then-matrix-k-clause-result_value c = number-told _ _ _ _ _ _ (returns-then-matrix-k-clause-value c)
 
 pub rows-walked-requires : goal.rows-walked-requires
 rows-walked-requires c =
-    ((chosen _ _ _ _ (sym c.in_ok-numbering.ensures.refusal)).settings.narrow, omega (arith, c.if-matrix-k.false))
-
-pub returns-then-oversized-clause-value : goal.returns-then-oversized-clause-value
-returns-then-oversized-clause-value c =
-    let chose = sym c.in_ok-numbering.ensures.refusal in
-    number-refused _ _ _ _ _ _
-    (sym
-    (by-entry _ _ _ _ _ chose c.if-matrix-k.false
-    (entries-told _ _ _ _ _ chose c.if-matrix-k.false _ c.rows-walked.ensures true c.if-oversized.ensures)))
-
-pub returns-then-oversized-clause-result_value : goal.returns-then-oversized-clause-result_value
-returns-then-oversized-clause-result_value c = number-told _ _ _ _ _ _ (returns-then-oversized-clause-value c)
+    ((chosen _ _ _ _ (sym c.in_ok-check.ensures.refusal)).settings.narrow, omega (arith, c.if-matrix-k.false))
 
 pub returns-then-not-walked-clause-value : goal.returns-then-not-walked-clause-value
 returns-then-not-walked-clause-value c =
-    let chose = sym c.in_ok-numbering.ensures.refusal in
+    let chose = sym c.in_ok-check.ensures.refusal in
     let s = c.if-matrix-k.false in
     let e = c.rows-walked.ensures in
     let small = c.if-oversized.ensures in
@@ -90,7 +79,7 @@ returns-then-not-walked-clause-result_value c = number-told _ _ _ _ _ _ (returns
 
 pub rank-requires : goal.rank-requires
 rank-requires c =
-    let chose = sym c.in_ok-numbering.ensures.refusal in
+    let chose = sym c.in_ok-check.ensures.refusal in
     let s = c.if-matrix-k.false in
     let e = c.rows-walked.ensures in
     let small = c.if-oversized.ensures in (
@@ -101,12 +90,22 @@ rank-requires c =
 
 pub returns-clause-value : goal.returns-clause-value
 returns-clause-value c =
-    let a = c.args in
-    let chose = sym c.in_ok-numbering.ensures.refusal in
-    ap Ok (c.rank.ensures ∙ ap (λ t. index_in t (index_of a.q a.n a.k t a.matrix.now)) c.in_ok-numbering.ensures.chosen)
+    let chose = sym c.in_ok-check.ensures.refusal in
+    ap Ok c.rank.ensures
     ∙ sym
     (reduced-numbered _ _ _ _ _ chose
     (reduced _ _ _ _ _ chose c.if-matrix-k.false _ c.rows-walked.ensures c.if-oversized.ensures (not-false _ c.if-not-walked.false)))
 
 pub returns-clause-result_value : goal.returns-clause-result_value
 returns-clause-result_value c = number-told _ _ _ _ _ _ (returns-clause-value c)
+
+pub returns-then-oversized-clause-value : goal.returns-then-oversized-clause-value
+returns-then-oversized-clause-value c =
+    let chose = sym c.in_ok-check.ensures.refusal in
+    number-refused _ _ _ _ _ _
+    (sym
+    (by-entry _ _ _ _ _ chose c.if-matrix-k.false
+    (entries-told _ _ _ _ _ chose c.if-matrix-k.false _ c.rows-walked.ensures true c.if-oversized.ensures)))
+
+pub returns-then-oversized-clause-result_value : goal.returns-then-oversized-clause-result_value
+returns-then-oversized-clause-result_value c = number-told _ _ _ _ _ _ (returns-then-oversized-clause-value c)

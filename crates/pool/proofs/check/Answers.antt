@@ -1,5 +1,5 @@
 -- `pool::check` meets its contract: the tests in their order, each passed or answered.
-use Rattle.std.proofs.Common.{rules, ◌≡◌, sym, ◌∙◌, arith, length, eq-eqb, ne_eqb}
+use Rattle.std.proofs.Common.{rules, ◌≡◌, sym, ◌∙◌, ◌*◌, arith, length, eq-eqb, ne_eqb}
 use Rattle.refusal.specs.Laws.First.{test-refused, test-passed, first-none}
 use Rattle.receiver.specs.Laws.Sound.{sound, used-fit}
 use Rattle.pool.specs.Pool.{pool_refusal}
@@ -12,7 +12,7 @@ returns-then-not-is_formed c = sym (test-refused _ _ _ tt (sym c.if-not-is_forme
 pub returns-then-not-is_formed-2 : goal.returns-then-not-is_formed-2
 unfolding pool_refusal
 returns-then-not-is_formed-2 c =
-    sym (test-passed _ _ _ (sym c.if-not-is_formed.ensures) ∙ test-refused _ _ _ tt (sym c.if-not-is_formed-2.ensures))
+    sym (test-passed _ _ _ (sym c.if-not-is_formed.ensures) ∙ test-refused _ _ _ tt (cc))
 
 pub returns-then-not-alike : goal.returns-then-not-alike
 unfolding pool_refusal
@@ -45,7 +45,7 @@ returns-then-common-size c =
     ∙ test-passed _ _ _ (sym c.if-not-is_formed-2.ensures)
     ∙ test-passed _ _ _ (sym c.if-not-alike.ensures)
     ∙ test-passed _ _ _ (eq-eqb _ _ c.if-joint-size.false)
-    ∙ test-refused _ _ _ tt (ne_eqb _ _ c.if-common-size.true))
+    ∙ test-refused _ _ _ tt (ne_eqb c.args.common (c.args.a.n * c.args.a.n) (λ z. omega (arith, z, c.if-common-size.true))))
 
 pub returns : goal.returns
 unfolding pool_refusal
@@ -55,5 +55,5 @@ returns c =
     ∙ test-passed _ _ _ (sym c.if-not-is_formed-2.ensures)
     ∙ test-passed _ _ _ (sym c.if-not-alike.ensures)
     ∙ test-passed _ _ _ (eq-eqb _ _ c.if-joint-size.false)
-    ∙ test-passed _ _ _ (eq-eqb _ _ c.if-common-size.false)
+    ∙ test-passed _ _ _ (eq-eqb _ _ (omega (arith, c.if-common-size.false)))
     ∙ first-none)

@@ -148,12 +148,17 @@ module _ (s : Setup) (settings : setup_refusal s ≡ 0) (rows : List (List ℕ))
       ap (λ (x : Taken). x.answer) (take-kept s settings rows h o (λ z. number-positive refusal (sym e ∙ z)))
       ∙ ap (λ x. Err (named x)) e ∙ ap Err (named-number refusal)
 
+  -- and so by its number
+  numbered : (refusal : Refusal) → take_refusal r o ≡ number refusal
+      → (t.answer ≡ Err refusal) × (take_number t.answer ≡ number refusal)
+  numbered refusal e = let told = refused refusal e in (told, ap take_number told)
+
   formed : well_formed r ≡ true
   formed = well-formed-holding s settings rows h
 
-  foreign : (t.answer ≡ Err Pack) ↔ (o.pack ≡ s.pack → ⊥)
+  foreign : ((t.answer ≡ Err Pack) × (take_number t.answer ≡ 17)) ↔ (o.pack ≡ s.pack → ⊥)
   unfolding holding
-  foreign = (λ e. foreign-only r o formed (sym tells.number ∙ ap take_number e), λ p. refused Pack (take-foreign r o formed p))
+  foreign = (λ e. foreign-only r o formed (sym tells.number ∙ e.1), λ p. numbered Pack (take-foreign r o formed p))
 
   pub answered : Answered s rows (holding s rows) o (take_of (holding s rows) o)
   unfolding holding
@@ -163,8 +168,8 @@ module _ (s : Setup) (settings : setup_refusal s ≡ 0) (rows : List (List ℕ))
         raised = raised;
         held = held;
         idle = idle;
-        long = λ own l. refused Length (take_long r o formed own l);
-        large = λ own l outside. refused Entry (take-large r o formed own l outside);
+        long = λ own l. numbered Length (take_long r o formed own l);
+        large = λ own l outside. numbered Entry (take-large r o formed own l outside);
         grown = λ e. let x = raised.0 e in grown-dimension x.0 x.1 x.2;
         untouched = λ e. tells.untouched (unraised t.answer e);
       }

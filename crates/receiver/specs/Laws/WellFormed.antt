@@ -2,16 +2,21 @@
 --   formed-settings, -dimension == one of these parts fails
 --   formed-entries, -rest == a part that fails, after those before it
 --   formed-reduced            == the last part, after all others
+--   formed-any-pack           == the test reads no pack: it holds of a receiver whatever pack number is in it
 -- Assumes nothing.
-use Rattle.std.specs.Prelude.{◌≡◌, Bool, ◌&&◌, ◌<◌, ◌≤◌, eqb}
+use Rattle.std.specs.Prelude.{◌≡◌, Bool, ◌&&◌, ℕ, ◌<◌, ◌≤◌, eqb}
 use Rattle.std.proofs.Math.Path.{refl}
 use Rattle.std.proofs.Math.Bool.{true, false}
 use borrow.Author.Tests.{eq-eqb, ne_eqb, le-leb, lt-leb}
 use Rattle.matrix.specs.Matrix.{entries_below, is_reduced}
-use Rattle.receiver.specs.Receiver.{setup_of, setup_refusal, used, unused, well_formed}
+use Rattle.receiver.specs.Receiver.{setup, setup_of, setup_refusal, made, used, unused, well_formed}
 use Rattle.receiver.specs.declared.Receiver.{Receiver}
 
 module _ (r : Receiver) where
+  pub formed-any-pack : (pack : ℕ) → well_formed (made (setup r.q r.n r.k pack) r.dimension r.entries) ≡ well_formed r
+  unfolding well_formed
+  formed-any-pack pack = refl
+
   pub formed-settings : (setup_refusal (setup_of r) ≡ 0 → ⊥) → false ≡ well_formed r
   unfolding well_formed
   formed-settings s = rw (ne_eqb (setup_refusal (setup_of r)) 0 s)

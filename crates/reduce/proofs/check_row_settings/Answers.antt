@@ -1,8 +1,7 @@
 -- `reduce::check_row_settings` meets its contract: the tests in their order, each passed or answered.
 use Rattle.std.proofs.Common.{sym, ◌∙◌}
-use Rattle.refusal.specs.Laws.First.{test-refused, test-passed}
+use Rattle.refusal.specs.Laws.First.{test-refused, test-passed, first-none}
 use Rattle.reduce.specs.Reduce.{row_settings_refusal}
-use Rattle.reduce.specs.Laws.RowList.{row-settings-unrefused}
 use Rattle.reduce.proofs.check_row_settings.Goals as goal
 
 pub returns-then-not-is_size : goal.returns-then-not-is_size
@@ -15,4 +14,7 @@ returns-then-not-row_length_ok c =
     sym (test-passed _ _ _ (sym c.if-not-is_size.ensures) ∙ test-refused _ _ _ tt (sym c.if-not-row_length_ok.ensures))
 
 pub returns : goal.returns
-returns c = sym (row-settings-unrefused _ _ (sym c.if-not-is_size.ensures) (sym c.if-not-row_length_ok.ensures))
+unfolding row_settings_refusal
+returns c =
+    sym
+    (test-passed _ _ _ (sym c.if-not-is_size.ensures) ∙ test-passed _ _ _ (sym c.if-not-row_length_ok.ensures) ∙ first-none)

@@ -1,9 +1,8 @@
 -- `reduce::check_rows_size` meets its contract: the tests in their order, each passed or answered.
-use Rattle.std.proofs.Common.{sym, ◌∙◌, mul-le-mul, ne_eqb, arith}
+use Rattle.std.proofs.Common.{sym, ◌∙◌, mul-le-mul, eq-eqb, ne_eqb, arith}
 use borrow.Author.Tests.{le-leb, lt-leb}
-use Rattle.refusal.specs.Laws.First.{test-refused, test-passed}
+use Rattle.refusal.specs.Laws.First.{test-refused, test-passed, first-none}
 use Rattle.reduce.specs.Reduce.{most_rows, rows_size_refusal}
-use Rattle.reduce.specs.Laws.RowList.{rows-size-unrefused}
 use Rattle.reduce.proofs.check_rows_size.Goals as goal
 
 pub returns-then-row_count-gt-MOST_ROWS : goal.returns-then-row_count-gt-MOST_ROWS
@@ -22,4 +21,9 @@ returns-then-size-row_count c =
     sym (test-passed _ _ _ (le-leb _ _ c.if-row_count-gt-MOST_ROWS.false) ∙ test-refused _ _ _ tt (ne_eqb _ _ c.if-size-row_count.true))
 
 pub returns : goal.returns
-returns c = sym (rows-size-unrefused _ _ _ c.if-row_count-gt-MOST_ROWS.false c.if-size-row_count.false)
+unfolding rows_size_refusal
+returns c =
+    sym
+    (test-passed _ _ _ (le-leb _ _ c.if-row_count-gt-MOST_ROWS.false)
+    ∙ test-passed _ _ _ (eq-eqb _ _ c.if-size-row_count.false)
+    ∙ first-none)

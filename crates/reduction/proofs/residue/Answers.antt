@@ -6,7 +6,7 @@ use Rattle.linear.specs.Eliminate.{lead_of}
 use Rattle.rows.specs.Laws.Steps.{part}
 use Rattle.rows.specs.Laws.Puts.{pasted}
 use Rattle.reduction.specs.Laws.LeadsRead.{lead-read, read-inside}
-use Rattle.reduction.specs.Laws.Residue.{eliminating-none, eliminating-start, first-row, eliminating-part}
+use Rattle.reduction.specs.Laws.Residue.{eliminating-none, eliminating-first, first-row, eliminating-part}
 use Rattle.reduction.specs.Laws.Residue.{eliminating-row, eliminating-more, eliminating-end}
 use Rattle.reduction.proofs.residue.Goals as goal
 
@@ -39,7 +39,7 @@ pub loop-i-init : goal.loop-i-init
 loop-i-init c =
     let a = c.args in
     let t = c.requires.t in
-    eliminating-start a.q (laws a.q t.0) a.n a.d a.m.now a.row.now t.1 t.2.rows t.3 (omega arith) _ c.enter.ensures
+    eliminating-first a.q (laws a.q t.0) a.n a.d a.m.now a.row.now t.1 t.2.rows t.3 (omega arith) _ c.enter.ensures
 
 pub eliminate-requires-clause-t : goal.eliminate-requires-clause-t
 eliminate-requires-clause-t c =

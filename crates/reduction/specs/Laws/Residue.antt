@@ -1,7 +1,8 @@
 -- A row v written to the place of row d and eliminated with the rows before it, one after the other; no part of the meaning.
 --   Eliminating       == only row d has changed, and its residue by the rows from row i on is v's by all rows
 --   eliminating-none == where there are no rows
---   eliminating-start == after the first row
+--   eliminating-first == after the first row
+--   eliminating-start == and so of the bytes as they are then
 --   started-rows, started-fits, started-put == and what is as it was
 --   eliminating-row, eliminating-part == what eliminating with row i asks
 --   eliminating-more  == one row more
@@ -20,6 +21,7 @@ use Rattle.linear.specs.Laws.Elimination.{eliminate-row}
 use Rattle.linear.specs.Laws.FlatRows.{rows_from, rows_all, rows_next, rows_none, rows-each}
 use Rattle.rows.specs.Laws.Steps.{part, put}
 use Rattle.rows.specs.Laws.Puts.{put-length, part-put, before-put, rows-put, put-put}
+use Rattle.rows.specs.Laws.Write.{put_same}
 
 pub record Eliminating (q n d : ℕ) (m v : List ℕ) (i : ℕ) (now : List ℕ) : Type 0 where
   pub within : i ≤ d
@@ -88,9 +90,9 @@ module _ (q : ℕ) (laws : Laws q) (n d : ℕ) (m v : List ℕ) (fits : d * n + 
   new_row : Row q n (eliminate q n (part n 0 m) v)
   new_row = eliminate-row q laws n (part n 0 m) v first-row hv
 
-  pub eliminating-start : (now : List ℕ) → now ≡ put n (d * n) (eliminate q n (part n 0 m) v) m → Eliminating q n d m v 1 now
+  pub eliminating-first : (now : List ℕ) → now ≡ put n (d * n) (eliminate q n (part n 0 m) v) m → Eliminating q n d m v 1 now
   unfolding residue
-  eliminating-start now is =
+  eliminating-first now is =
       record {
         within = h;
         row = subst (Row q n) (sym read) new_row;
@@ -110,6 +112,27 @@ module _ (q : ℕ) (laws : Laws q) (n d : ℕ) (m v : List ℕ) (fits : d * n + 
 
     pub started-fits : d * n + n ≤ length now
     started-fits = omega (arith, ap length is, put-length n (d * n) (eliminate q n (part n 0 m) v) m new_row.0 fits)
+
+    pub eliminating-start : Eliminating q n d now v 1 now
+    unfolding residue
+    eliminating-start =
+        record {
+          within = h;
+          row = subst (Row q n) (sym read) new_row;
+          only = sym (put_same n (d * n) now);
+          same =
+              ap (λ x. residue q n x v) (rows_all n now d ∙ rows_next n now d 0 h)
+              ∙ ap (λ x. residue q n (rows_from n d now 1) (eliminate q n x v)) (ap (λ x. part n x now) (zero-mul n) ∙ first)
+              ∙ ap (residue q n (rows_from n d now 1)) (sym read);
+        }
+      where
+        read : part n (d * n) now ≡ eliminate q n (part n 0 m) v
+        read = ap (part n (d * n)) is ∙ part-put n (d * n) (eliminate q n (part n 0 m) v) m new_row.0 fits
+
+        first : part n 0 now ≡ part n 0 m
+        first =
+            ap (part n 0) is
+            ∙ before-put n (d * n) (eliminate q n (part n 0 m) v) m new_row.0 fits n 0 (omega (arith, row_fits 0 d n h))
 
     pub started-put : (w : List ℕ) → put n (d * n) w now ≡ put n (d * n) w m
     started-put w = ap (put n (d * n) w) is ∙ put-put n (d * n) (eliminate q n (part n 0 m) v) m new_row.0 fits w

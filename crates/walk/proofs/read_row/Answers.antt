@@ -1,29 +1,21 @@
-use Rattle.std.proofs.Common.{◌≡◌, ℕ, ◌+◌, ◌*◌, ◌-◌, ◌<◌, refl, ap, ap₂, ◌∙◌, add-one, arith, length-take-le, length-drop}
-use Rattle.std.proofs.lemmas.List.{get_or-take, get_or-drop}
+-- `walk::read_row` meets its contract: after j turns the row's first j entries are read.
+use Rattle.std.proofs.Common.{refl, ap, ◌∙◌, add-one, arith}
+use Rattle.matrix.specs.Matrix.{entry}
 use Rattle.walk.specs.Walk.{entered, row_read}
 use Rattle.walk.proofs.Laws.RowRead.{row_read_lem, read-room}
 use Rattle.walk.proofs.read_row.Goals as goal
 
-pub loop-x-init : goal.loop-x-init
+pub loop-j-init : goal.loop-j-init
 unfolding row_read
-loop-x-init c = refl
+loop-j-init c = refl
 
 pub enter-row-requires : goal.enter-row-requires
 enter-row-requires c =
     let a = c.args in
-    let inside : c.loop-x.x-index < 16 = omega (arith, length-take-le {A = ℕ}, length-drop {A = ℕ}) in
-    rw c.loop-x.invariant (read-room (row_read_lem a.n a.m.now a.i c.loop-x.x-index) inside)
+    rw c.loop-j.invariant (read-room (row_read_lem a.n a.m.now a.i c.loop-j.j) (omega arith))
 
-pub loop-x-preserved : goal.loop-x-preserved
+pub loop-j-preserved : goal.loop-j-preserved
 unfolding row_read
-loop-x-preserved c =
+loop-j-preserved c =
     let a = c.args in
-    let j = c.loop-x.x-index in
-    let inside : j < a.i * a.n + a.n - a.i * a.n = omega (arith, length-take-le {A = ℕ}, length-drop {A = ℕ}) in
-    rw add-one
-    (c.enter-row.ensures ∙ ap₂ entered c.loop-x.invariant (get_or-take _ _ j 0 inside ∙ get_or-drop (a.i * a.n) a.m.now j 0))
-
-pub returns : goal.returns
-returns c =
-    let whole : c.loop-x.x-index ≡ c.args.n = omega (arith, length-take-le {A = ℕ}, length-drop {A = ℕ}) in
-    c.loop-x.invariant ∙ ap (row_read c.args.n c.args.m.now c.args.i) whole
+    rw add-one (c.enter-row.ensures ∙ ap (λ r. entered r (entry a.n a.m.now a.i c.loop-j.j)) c.loop-j.invariant)

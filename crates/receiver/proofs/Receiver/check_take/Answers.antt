@@ -20,7 +20,7 @@ pub returns-then-pack-self-clause-refusal : goal.returns-then-pack-self-clause-r
 unfolding take_refusal
 returns-then-pack-self-clause-refusal c =
     let f = found _ _ c.formed.ensures _ _ c.in_ok-vector.ensures.value in
-    sym (test-passed _ _ _ f.0 ∙ test-refused _ _ _ tt (ne_eqb _ _ c.if-pack-self.true))
+    sym (test-passed _ _ _ f.0 ∙ test-refused _ _ _ tt (ne_eqb c.args.pack c.args.self.pack (λ z. omega (arith, z, c.if-pack-self.true))))
 
 pub returns-then-row-self-clause-refusal : goal.returns-then-row-self-clause-refusal
 unfolding take_refusal
@@ -28,7 +28,7 @@ returns-then-row-self-clause-refusal c =
     let f = found _ _ c.formed.ensures _ _ c.in_ok-vector.ensures.value in
     sym
     (test-passed _ _ _ f.0
-    ∙ test-passed _ _ _ (eq-eqb _ _ c.if-pack-self.false)
+    ∙ test-passed _ _ _ (eq-eqb _ _ (omega (arith, c.if-pack-self.false)))
     ∙ test-refused _ _ _ tt (ne_eqb _ _ c.if-row-self.true))
 
 pub returns-then-self-greatest-clause-refusal : goal.returns-then-self-greatest-clause-refusal
@@ -39,7 +39,7 @@ returns-then-self-greatest-clause-refusal c =
     let large = (settings-laws _ _ _ (sound _ whole f.0).settings).one_below in
     sym
     (test-passed _ _ _ f.0
-    ∙ test-passed _ _ _ (eq-eqb _ _ c.if-pack-self.false)
+    ∙ test-passed _ _ _ (eq-eqb _ _ (omega (arith, c.if-pack-self.false)))
     ∙ test-passed _ _ _ (eq-eqb _ _ c.if-row-self.false)
     ∙ test-refused _ _ _ tt (sym (c.greatest-greatest.ensures _ (omega (arith, large))) ∙ le-ltb _ _ c.if-self-greatest.true))
 
@@ -51,7 +51,7 @@ returns-clause-refusal c =
     let large = (settings-laws _ _ _ (sound _ whole f.0).settings).one_below in
     sym
     (test-passed _ _ _ f.0
-    ∙ test-passed _ _ _ (eq-eqb _ _ c.if-pack-self.false)
+    ∙ test-passed _ _ _ (eq-eqb _ _ (omega (arith, c.if-pack-self.false)))
     ∙ test-passed _ _ _ (eq-eqb _ _ c.if-row-self.false)
     ∙ test-passed _ _ _ (sym (c.greatest-greatest.ensures _ (omega (arith, large))) ∙ lt-ltb _ _ c.if-self-greatest.false)
     ∙ first-none)

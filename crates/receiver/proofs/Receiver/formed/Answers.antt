@@ -73,6 +73,11 @@ module _ (r : Receiver) where
           ∙ picked (is_reduced r.n r.dimension (used r)) (identifying r.n r.dimension (used r))
           ∙ ap (λ x. then_some x (identifying r.n r.dimension (used r))) (formed-reduced r s low b z)
 
+pub overflow_mul-size : goal.overflow_mul-size
+overflow_mul-size c =
+    let s = sym c.check.ensures ∙ settled _ _ c.in_ok-ok.ensures.value in
+    omega (arith, short c.args.self.now (search rules) s (omega (arith, c.if-self.false)))
+
 pub returns-then-self : goal.returns-then-self
 returns-then-self c = unformed _ _ (formed-dimension _ c.if-self.true)
 
@@ -80,11 +85,6 @@ pub returns-in_err-ok : goal.returns-in_err-ok
 returns-in_err-ok c =
     c.from_residual.ensures
     ∙ unformed c.args.self.now _ (formed-settings _ (λ z. unsettled _ c.in_err-ok.ensures.value (c.check.ensures ∙ z)))
-
-pub overflow_mul-size : goal.overflow_mul-size
-overflow_mul-size c =
-    let s = sym c.check.ensures ∙ settled _ _ c.in_ok-ok.ensures.value in
-    omega (arith, short c.args.self.now (search rules) s c.if-self.false)
 
 pub shared_ref_as_front-rows : goal.shared_ref_as_front-rows
 shared_ref_as_front-rows c =
@@ -96,6 +96,15 @@ rows-walked-requires c =
     let s = sym c.check.ensures ∙ settled _ _ c.in_ok-ok.ensures.value in
     let r = c.args.self.now in
     (narrow r (search rules) s c.if-self.false, omega (arith, part r (search rules) s c.if-self.false))
+
+pub returns : goal.returns
+returns c =
+    let s = sym c.check.ensures ∙ settled _ _ c.in_ok-ok.ensures.value in
+    let r = c.args.self.now in
+    c.then_some.ensures
+    ∙ whole r (search rules) s c.if-self.false _ c.rows-walked.ensures
+    (told r (search rules) s c.if-self.false _ c.rows-walked.ensures false c.if-oversized.ensures)
+    (rest r (search rules) s c.if-self.false true c.if-not-entries_below.ensures)
 
 pub returns-then-oversized : goal.returns-then-oversized
 returns-then-oversized c =
@@ -110,12 +119,3 @@ returns-then-not-entries_below c =
     unformed _ _
     (formed-rest r s c.if-self.false (told r (search rules) s c.if-self.false _ c.rows-walked.ensures false c.if-oversized.ensures)
     (rest r (search rules) s c.if-self.false false c.if-not-entries_below.ensures))
-
-pub returns : goal.returns
-returns c =
-    let s = sym c.check.ensures ∙ settled _ _ c.in_ok-ok.ensures.value in
-    let r = c.args.self.now in
-    c.then_some.ensures
-    ∙ whole r (search rules) s c.if-self.false _ c.rows-walked.ensures
-    (told r (search rules) s c.if-self.false _ c.rows-walked.ensures false c.if-oversized.ensures)
-    (rest r (search rules) s c.if-self.false true c.if-not-entries_below.ensures)
